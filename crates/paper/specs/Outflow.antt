@@ -1,0 +1,14 @@
+-- Rule 6, outflow (SCS, abstraction 0.2). Where the paper's a is not above 0, so is `excess`, and the outflow is 0.
+use Prim.Native.Nat.{ℕ, _+_, _-_, _*_, _/_}
+
+-- a = c(w + 20,000) - 2,000,000
+unfoldable pub excess : ℕ → ℕ → ℕ
+excess c w = c * (w + 20000) - 2000000
+
+-- b = c(w - 80,000) + 8,000,000, for c up to 100
+unfoldable pub spread : ℕ → ℕ → ℕ
+spread c w = c * w + 8000000 - 80000 * c
+
+-- floor(a² / (c × b))
+unfoldable pub outflow : ℕ → ℕ → ℕ
+outflow c w = excess c w * excess c w / (c * spread c w)

@@ -1,0 +1,118 @@
+-- The setup: grid, season, cover table and cells, and what the rules read of one cell.
+use mathlib.Core.Bool.{Bool, cond, _&&_}
+use mathlib.Core.List.{List}
+use Prim.Native.Nat.{ℕ, zero, suc, _*_}
+use lib.Dec.{eqb, leb}
+use lib.ListN.{getD}
+use Rattle.theory.specs.Lowest.{Found, at, nowhere, lowest, some}
+use Rattle.paper.specs.Limits.{within, mostCells, lastDayOfYear, mostAvailableWater}
+use Rattle.paper.specs.Covers.{
+  codeOf,
+  openOf,
+  curveNumberOf,
+  largestOf,
+  growingOf,
+  dormantOf,
+  rootDepthOf,
+  entries,
+}
+use Rattle.paper.specs.Directions.{Goes, to, leaves, stays, wayOf, goesBy}
+
+pub record Setup : Type 0 where
+  pub width : ℕ
+  pub height : ℕ
+  -- first and last growing day
+  pub first : ℕ
+  pub last : ℕ
+  -- 16 numbers an entry
+  pub covers : List ℕ
+  -- one entry a cell
+  pub direction : List ℕ
+  pub cover : List ℕ
+  pub group : List ℕ
+  pub water : List ℕ
+
+unfoldable pub cells : Setup → ℕ
+cells s = s .width * s .height
+
+unfoldable pub gridFits : Setup → Bool
+gridFits s = leb 1 (s .width) && leb 1 (s .height) && leb (cells s) mostCells
+
+unfoldable pub seasonFits : Setup → Bool
+seasonFits s = within 1 lastDayOfYear (s .first) && within 1 lastDayOfYear (s .last) && leb (s .first) (s .last)
+
+-- the day of the year is a growing day: both ends count
+unfoldable pub growing : Setup → ℕ → Bool
+growing s dayOfYear = within (s .first) (s .last) dayOfYear
+
+-- a cell's numbers
+abbrev pub coverOf : Setup → ℕ → ℕ
+coverOf s i = getD (s .cover) i 0
+
+abbrev pub groupOf : Setup → ℕ → ℕ
+groupOf s i = getD (s .group) i 0
+
+abbrev pub waterOf : Setup → ℕ → ℕ
+waterOf s i = getD (s .water) i 0
+
+-- its entry in the cover table
+unfoldable pub place : Found → ℕ
+place (at e) = e
+place nowhere = 0
+
+unfoldable pub entryOf : Setup → ℕ → ℕ
+entryOf s i = place (lowest (entries (s .covers)) (λ e. eqb (codeOf (s .covers) e) (coverOf s i)))
+
+unfoldable pub cellFits : Setup → ℕ → Bool
+cellFits s i =
+    some (entries (s .covers)) (λ e. eqb (codeOf (s .covers) e) (coverOf s i))
+    && within 1 4 (groupOf s i)
+    && leb (waterOf s i) mostAvailableWater
+
+unfoldable pub isOpen : Setup → ℕ → Bool
+isOpen s i = eqb (openOf (s .covers) (entryOf s i)) 1
+
+-- an open-water cell points nowhere, whatever its byte
+unfoldable pub goes : Setup → ℕ → Goes
+goes s i = cond (isOpen s i) stays (goesBy (s .width) (s .height) i (wayOf (getD (s .direction) i 0)))
+
+-- the cell that it points to, or a number past all cells: 4,096 over the edge, 4,097 where it stays
+unfoldable pub pointed : Goes → ℕ
+pointed (to j) = j
+pointed leaves = mostCells
+pointed stays = suc mostCells
+
+unfoldable pub next : Setup → ℕ → ℕ
+next s i = pointed (goes s i)
+
+unfoldable pub isClosed : Goes → Bool
+isClosed (to j) = Bool.false
+isClosed leaves = Bool.false
+isClosed stays = Bool.true
+
+-- what the rules read of one cell
+pub record Cell : Type 0 where
+  -- open water
+  pub open? : Bool
+  -- it passes nothing on: a closed depression (or open water, which rule 1 looks at first)
+  pub closed? : Bool
+  pub capacity : ℕ
+  -- the table's N
+  pub N : ℕ
+  -- the largest daily recharge
+  pub largest : ℕ
+  -- interception
+  pub growingFigure : ℕ
+  pub dormantFigure : ℕ
+
+unfoldable pub cell : Setup → ℕ → Cell
+cell s i =
+    record {
+      open? = isOpen s i;
+      closed? = isClosed (goes s i);
+      capacity = waterOf s i * rootDepthOf (s .covers) (entryOf s i) (groupOf s i);
+      N = curveNumberOf (s .covers) (entryOf s i) (groupOf s i);
+      largest = largestOf (s .covers) (entryOf s i) (groupOf s i);
+      growingFigure = growingOf (s .covers) (entryOf s i);
+      dormantFigure = dormantOf (s .covers) (entryOf s i);
+    }

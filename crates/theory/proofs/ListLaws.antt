@@ -1,0 +1,62 @@
+-- A made list has its rule's length and elements, and a list over whose front a rule is written takes one more place of it by one store. Each
+-- law follows the rule's own recursion, or cuts the list at the place where the rule ends.
+use mathlib.Core.Path.{_≡_, refl, sym, ap, _∙_}
+use mathlib.Core.List.{List, [], _∷_, _++_, append-nil}
+use Prim.Native.Nat.{ℕ, zero, suc, _+_, _-_, _≤_, _<_, suc-le-suc}
+use native.Mathlib.Nat.{not-suc-le-zero, le-of-suc-le-suc, zero-lt-suc, add-sub-of-le, le-of-eq}
+use native.Mathlib.Omega.{arith}
+use lib.ListN.{length, getD, set, drop, length-append, length-drop, drop-of-length-le}
+use lib.Seq.{drop-cons, set-at, append-snoc, getD-append-add, getD-drop}
+use Rattle.theory.specs.Lists.{made, madeOver}
+
+module _ {A : Type 0} where
+  pub made-length : (n : ℕ) (f : ℕ → A) → length (made n f) ≡ n
+  unfolding made
+  made-length zero f = refl
+  made-length (suc n) f = ap suc (made-length n (λ i. f (suc i)))
+
+  pub made-at : (n : ℕ) (f : ℕ → A) (d : A) (i : ℕ) → i < n → getD (made n f) i d ≡ f i
+  unfolding made
+  made-at zero f d i h = absurd (not-suc-le-zero h)
+  made-at (suc n) f d zero h = refl
+  made-at (suc n) f d (suc i) h = made-at n (λ j. f (suc j)) d i (le-of-suc-le-suc h)
+
+  pub made-cong : (n : ℕ) (f g : ℕ → A) → ((i : ℕ) → i < n → f i ≡ g i) → made n f ≡ made n g
+  unfolding made
+  made-cong zero f g e = refl
+  made-cong (suc n) f g e =
+      λ t. e 0 (zero-lt-suc n) t ∷ made-cong n (λ i. f (suc i)) (λ i. g (suc i)) (λ i h. e (suc i) (suc-le-suc h)) t
+
+  pub made-snoc : (n : ℕ) (f : ℕ → A) → made (suc n) f ≡ made n f ++ (f n ∷ [])
+  unfolding made
+  made-snoc zero f = refl
+  made-snoc (suc n) f = ap (λ (l : List A). f 0 ∷ l) (made-snoc n (λ i. f (suc i)))
+
+  pub made-of : (l : List A) (d : A) → made (length l) (λ i. getD l i d) ≡ l
+  unfolding made
+  made-of [] d = refl
+  made-of (x ∷ xs) d = ap (λ (l : List A). x ∷ l) (made-of xs d)
+
+  pub over-none : (f : ℕ → A) (l : List A) → madeOver 0 f l ≡ l
+  unfolding madeOver made
+  over-none f l = refl
+
+  pub over-more : (n : ℕ) (f : ℕ → A) (l : List A) → n < length l → set (madeOver n f l) n (f n) ≡ madeOver (suc n) f l
+  unfolding madeOver
+  over-more n f l h =
+      rw (drop-cons l n (f n), made-snoc) (set-at (made n f) (getD l n (f n)) (drop (suc n) l) (f n) n (made-length n f)
+      ∙ sym (append-snoc (made n f) (f n) (drop (suc n) l)))
+
+  pub over-all : (n : ℕ) (f : ℕ → A) (l : List A) → length l ≡ n → madeOver n f l ≡ made n f
+  unfolding madeOver
+  over-all n f l e = rw (drop-of-length-le l {i = n} (le-of-eq e), append-nil)
+
+  pub over-length : (n : ℕ) (f : ℕ → A) (l : List A) → n ≤ length l → length (madeOver n f l) ≡ length l
+  unfolding madeOver
+  over-length n f l h = simp (length-append, made-length, length-drop) (omega arith)
+
+  pub over-ahead : (n : ℕ) (f : ℕ → A) (l : List A) (d : A) (i : ℕ) → n ≤ i → getD (madeOver n f l) i d ≡ getD l i d
+  unfolding madeOver
+  over-ahead n f l d i h =
+      rw (← add-sub-of-le h) (ap (λ (k : ℕ). getD (made n f ++ drop n l) (k + (i - n)) d) (sym (made-length n f))
+      ∙ getD-append-add (made n f) (drop n l) (i - n) d ∙ getD-drop n l (i - n) d)
