@@ -2,15 +2,15 @@
 -- pointing to i: along an order in which each cell stands after those that point to it, what reaches a cell is settled once its turn has
 -- come. It rises with the cells' own water, no cell's passes the sum of all own water (the cells up to a cell's turn hold, besides it,
 -- all that flows among them), and the inflows are the outflows that point inside.
-use mathlib.Core.Path.{_≡_, refl, sym, ap, _∙_, subst}
-use mathlib.Core.Bool.{Bool, true, false}
+use mathlib.Core.Path.{_≡_, sym, ap, _∙_, subst}
+use mathlib.Core.Bool.{Bool}
 use Prim.Native.Nat.{ℕ, zero, suc, _+_, _≤_, _<_, zero-le}
 use native.Mathlib.Nat.{not-suc-le-zero, le-of-suc-le-suc, lt-of-lt-of-le, le-refl, le-trans, add-le-add, add-zero, le-of-eq, le-of-lt}
 use native.Mathlib.Omega.{arith}
 use lib.Dec.{eqb, leb, ltb}
-use borrow.Author.Tests.{eqb-true, eq-eqb, ne-eqb, leb-true, leb-false, le-leb, lt-ltb, le-ltb, lt-leb, ltb-true}
+use borrow.Author.Tests.{eqb-true, leb-true, le-leb, lt-ltb, le-ltb, ltb-true}
 use Rattle.theory.specs.Sums.{sum, given}
-use Rattle.theory.specs.Ways.{OneWay, RingFree, UpslopeFirst}
+use Rattle.theory.specs.Ways.{UpslopeFirst}
 use Rattle.theory.proofs.Cases.{below-or-not, byCases}
 use Rattle.theory.proofs.GivenLaws.{given-if, given-comm, given-implied}
 use Rattle.theory.proofs.SumLaws.{sum-cong, sum-le, sum-add, sum-swap, sum-pick, sum-unpicked, given-add, given-sum, given-le, given-most}
@@ -72,24 +72,24 @@ module _ (n : ℕ) (next : ℕ → ℕ) (passed : ℕ → ℕ → ℕ) where
   arriving-inside w =
       sum-swap n n (λ i j. given (eqb (next j) i) (passed j (w j))) ∙ sum-cong n _ _ (λ j h. one-way (λ i k. passed k (w k)) j)
 
-  module _ (rising : (j w v : ℕ) → w ≤ v → passed j w ≤ passed j v) (own owned : ℕ → ℕ) (more : (i : ℕ) → own i ≤ owned i) where
-    rising-from : (k i : ℕ) → waterFrom n next passed own k i ≤ waterFrom n next passed owned k i
+  module _ (rising : (j w v : ℕ) → j < n → w ≤ v → passed j w ≤ passed j v) (own owned : ℕ → ℕ) (more : (i : ℕ) → i < n → own i ≤ owned i) where
+    rising-from : (k i : ℕ) → i < n → waterFrom n next passed own k i ≤ waterFrom n next passed owned k i
     unfolding waterFrom arriving
-    rising-from zero i = more i
-    rising-from (suc k) i =
-        add-le-add (more i) (sum-le n _ _ (λ j hj. given-le (eqb (next j) i) (rising j _ _ (rising-from k j))))
+    rising-from zero i h = more i h
+    rising-from (suc k) i h =
+        add-le-add (more i h) (sum-le n _ _ (λ j hj. given-le (eqb (next j) i) (rising j _ _ hj (rising-from k j hj))))
 
-    pub water-rises : (i : ℕ) → water n next passed own i ≤ water n next passed owned i
+    pub water-rises : (i : ℕ) → i < n → water n next passed own i ≤ water n next passed owned i
     unfolding water
     water-rises = rising-from n
 
     pub arriving-rises : (i : ℕ)
         → arriving n next passed (water n next passed own) i ≤ arriving n next passed (water n next passed owned) i
     unfolding arriving
-    arriving-rises i = sum-le n _ _ (λ j hj. given-le (eqb (next j) i) (rising j _ _ (water-rises j)))
+    arriving-rises i = sum-le n _ _ (λ j hj. given-le (eqb (next j) i) (rising j _ _ hj (water-rises j hj)))
 
   -- no cell's water passes the sum of all own water: with U the cells up to i's turn, and V those before it, all that arrives in U comes from V
-  module _ (order : UpslopeFirst n next) (most : (j w : ℕ) → passed j w ≤ w) (own : ℕ → ℕ) (i : ℕ) (hi : i < n) where
+  module _ (order : UpslopeFirst n next) (most : (j w : ℕ) → j < n → passed j w ≤ w) (own : ℕ → ℕ) (i : ℕ) (hi : i < n) where
     abbrev inU : ℕ → Bool
     inU c = leb (order .turn c) (order .turn i)
 
@@ -106,7 +106,7 @@ module _ (n : ℕ) (next : ℕ → ℕ) (passed : ℕ → ℕ → ℕ) where
         (below-or-not (next j) n (λ h. le-trans (given-most (ltb (next j) n) _)
         (given-implied (inU (next j)) (inV j)
         (λ e. lt-ltb _ _ (lt-of-lt-of-le (order .after j hj h) (leb-true _ _ e)))
-        (λ e. most j (W j)))) (λ h. simp (le-ltb (next j) n h) (unfold given in zero-le)))
+        (λ e. most j (W j) hj))) (λ h. simp (le-ltb (next j) n h) (unfold given in zero-le)))
 
     beside : (c : ℕ) → given (inV c) (W c) + given (eqb i c) (W c) ≤ given (inU c) (W c)
     unfolding given

@@ -4,3 +4,12 @@ pub mod RetentionLaws
 pub mod SoilLaws
 pub mod FlowLaws
 pub mod RefusalLaws
+pub mod DirectionLaws
+pub mod StateLaws
+pub mod SnowLaws
+pub mod CurveNumberLaws
+pub mod CellDayLaws
+pub mod SetupLaws
+pub mod DayLaws
+pub mod RunLaws
+pub mod StarredFigures

@@ -10,6 +10,11 @@ use native.Mathlib.Omega.{arith}
 use Rattle.paper.specs.Outflow.{excess, spread, outflow}
 use Rattle.paper.proofs.Divisions.{ratio}
 
+-- b = c(w - 80,000) + 8,000,000, with no subtraction cut short
+pub spread-is : (c w : ℕ) → c ≤ 100 → spread c w + 80000 * c ≡ c * w + 8000000
+unfolding spread
+spread-is c w h = omega arith
+
 pub spread-excess : (c w : ℕ) → c ≤ 100 → 2000000 ≤ c * (w + 20000) → spread c w ≡ excess c w + 100000 * (100 - c)
 unfolding spread excess
 spread-excess c w p h = omega arith

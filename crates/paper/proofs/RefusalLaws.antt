@@ -2,15 +2,17 @@
 -- at its lowest place, with every test before it passing. Of a day's ten tests the one at k has the paper's number k + 1 and names its own
 -- place, so each row of the paper's table is given exactly when it says, at its place.
 use mathlib.Core.Path.{_≡_, refl, sym, ap, _∙_, subst}
-use mathlib.Core.Bool.{Bool, true, false}
+use mathlib.Core.Bool.{true, false}
 use mathlib.Core.List.{List, [], _∷_, _++_}
-use Prim.Native.Nat.{ℕ, zero, suc, _+_, _≤_, _<_, zero-le, suc-le-suc}
-use native.Mathlib.Nat.{not-suc-le-zero, le-of-suc-le-suc, zero-lt-suc}
+use Prim.Native.Nat.{ℕ, zero, suc, _+_, _<_, suc-le-suc}
+use native.Mathlib.Nat.{not-suc-le-zero, le-of-suc-le-suc, zero-lt-suc, add-zero, add-suc, suc-add}
 use native.Mathlib.Omega.{arith}
 use lib.ListN.{length}
 use Rattle.theory.specs.Lowest.{Found, at, nowhere, lowest}
 use Rattle.theory.proofs.LowestLaws.{lowest-at, at-lowest, lowest-none, none-lowest}
-use Rattle.paper.specs.Refusals.{Refusal, grid, Verdict, accepted, refused, Test, judged, verdict, single, numberOf, placeOf}
+use Rattle.paper.specs.Refusals.{Refusal, grid, Verdict, accepted, refused, Test, judged, verdict, single, numberOf, placeOf, setupTests, dayTests}
+use Rattle.paper.specs.Setup.{Setup}
+use Rattle.paper.specs.State.{State, Day}
 
 -- no place of the test fails
 unfoldable pub Passes : Test → Type 0
@@ -101,3 +103,95 @@ first-at (t ∷ ts) (suc k) i h before here =
 
 pub first-refused : (ts : List Test) (why : Refusal) → FirstFailing ts why → verdict ts ≡ refused why
 first-refused ts why f = first-at ts (f .k) (f .i) (f .inside) (f .before) (f .here) ∙ ap refused (f .named)
+
+-- the test has the number, and names its own place
+unfoldable pub Named : ℕ → Test → Type 0
+Named number t = (i : ℕ) → i < t .places → (numberOf (t .called i) ≡ number) × (placeOf (t .called i) ≡ i)
+
+-- the tests of a list are numbered one after another
+unfoldable pub Numbered : ℕ → List Test → Type 0
+Numbered number [] = Unit {0}
+Numbered number (t ∷ ts) = Named number t × Numbered (suc number) ts
+
+named-at : (number : ℕ) (ts : List Test) → Numbered number ts → (k : ℕ) → k < length ts → Named (number + k) (testAt ts k)
+unfolding Numbered testAt
+named-at number [] names k h = absurd (not-suc-le-zero h)
+named-at number (t ∷ ts) names zero h = rw add-zero (names .0)
+named-at number (t ∷ ts) names (suc k) h = rw (add-suc, ← suc-add) (named-at (suc number) ts (names .1) k (le-of-suc-le-suc h))
+
+numbered-both : (number : ℕ) (ts us : List Test) → Numbered number ts → Numbered (number + length ts) us → Numbered number (ts ++ us)
+unfolding Numbered
+numbered-both number [] us first then = rw add-zero at then
+numbered-both number (t ∷ ts) us first then =
+    (first .0, numbered-both (suc number) ts us (first .1) (rw (add-suc, ← suc-add) at then))
+
+-- a row of the paper's table: its test fails at the place and at no lower one, and each test of a lower number passes
+pub record Row (ts : List Test) (number place : ℕ) : Type 0 where
+  pub k : ℕ
+  pub numbered : number ≡ 1 + k
+  pub inside : k < length ts
+  pub before : (j : ℕ) → j < k → Passes (testAt ts j)
+  pub here : FailsAt (testAt ts k) place
+
+-- the number and the place that come back
+pub record Answered (v : Verdict) (number place : ℕ) : Type 0 where
+  pub why : Refusal
+  pub is : v ≡ refused why
+  pub number-is : numberOf why ≡ number
+  pub place-is : placeOf why ≡ place
+
+module _ (ts : List Test) (names : Numbered 1 ts) (number place : ℕ) where
+  pub answered-row : Answered (verdict ts) number place → Row ts number place
+  unfolding Named
+  answered-row a =
+      let f : FirstFailing ts (a .why) = refused-first ts (a .why) (a .is) in
+      let named : (numberOf (testAt ts (f .k) .called (f .i)) ≡ 1 + f .k) × (placeOf (testAt ts (f .k) .called (f .i)) ≡ f .i)
+      = named-at 1 ts names (f .k) (f .inside) (f .i) (f .here .inside) in
+      let at : f .i ≡ place = sym (named .1) ∙ ap placeOf (f .named) ∙ a .place-is in
+      record {
+        k = f .k;
+        numbered = sym (a .number-is) ∙ sym (ap numberOf (f .named)) ∙ named .0;
+        inside = f .inside;
+        before = f .before;
+        here = subst (FailsAt (testAt ts (f .k))) at (f .here);
+      }
+
+  pub row-answered : Row ts number place → Answered (verdict ts) number place
+  unfolding Named
+  row-answered row =
+      let named : (numberOf (testAt ts (row .k) .called place) ≡ 1 + row .k) × (placeOf (testAt ts (row .k) .called place) ≡ place)
+      = named-at 1 ts names (row .k) (row .inside) place (row .here .inside) in
+      record {
+        why = testAt ts (row .k) .called place;
+        is = first-at ts (row .k) place (row .inside) (row .before) (row .here);
+        number-is = named .0 ∙ sym (row .numbered);
+        place-is = named .1;
+      }
+
+zeroth : (i : ℕ) → i < 1 → 0 ≡ i
+zeroth i h = omega arith
+
+pub setup-numbered : (s : Setup) (lengths : List ℕ) → Numbered 1 (setupTests s lengths)
+unfolding Numbered Named setupTests single numberOf placeOf
+setup-numbered s lengths = (
+  λ i h. (refl, zeroth i h),
+  (
+    λ i h. (refl, zeroth i h),
+    (
+      λ i h. (refl, refl),
+      (
+        λ i h. (refl, refl),
+        (
+          λ i h. (refl, refl),
+          (λ i h. (refl, zeroth i h), tt),
+        ),
+      ),
+    ),
+  ),
+)
+
+pub day-numbered : (s : Setup) (lengths : List ℕ) (st : State) (d : Day) → Numbered 1 (setupTests s lengths ++ dayTests s st d)
+unfolding Numbered Named setupTests dayTests single numberOf placeOf
+day-numbered s lengths st d =
+    numbered-both 1 (setupTests s lengths) (dayTests s st d) (setup-numbered s lengths)
+    (λ i h. (refl, zeroth i h), (λ i h. (refl, zeroth i h), (λ i h. (refl, refl), (λ i h. (refl, refl), tt))))

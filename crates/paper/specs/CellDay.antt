@@ -75,18 +75,20 @@ unfoldable pub openDay : ℕ → Figures
 openDay w =
     record { intercepted = 0; outflow = w; evapotranspired = 0; recharged = 0; rejected = 0; soil = 0; snow = 0 }
 
+-- rules 7 and 8, with infiltration n = w - outflow
+unfoldable pub groundOf : Cell → Today → ℕ → ℕ → SoilDay
+groundOf c t soil w = soilDay (c .capacity) (c .largest) soil (w - passedOf c t w) (t .potential)
+
 -- rules 2 to 8, with water w
 unfoldable pub landDay : Cell → Today → ℕ → ℕ → ℕ → Figures
 landDay c t soil snow w =
-    let out : ℕ = passedOf c t w in
-    let ground : SoilDay = soilDay (c .capacity) (c .largest) soil (w - out) (t .potential) in
     record {
       intercepted = interceptedOf c t;
-      outflow = out;
-      evapotranspired = ground .evapotranspired;
-      recharged = ground .recharged;
-      rejected = ground .rejected;
-      soil = ground .soil;
+      outflow = passedOf c t w;
+      evapotranspired = groundOf c t soil w .evapotranspired;
+      recharged = groundOf c t soil w .recharged;
+      rejected = groundOf c t soil w .rejected;
+      soil = groundOf c t soil w .soil;
       snow = storeOf c t snow - meltOf c t snow;
     }
 

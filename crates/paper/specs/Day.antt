@@ -6,8 +6,8 @@ use lib.ListN.{length}
 use Rattle.theory.specs.Lists.{made}
 use Rattle.theory.specs.Sums.{sum, given}
 use Rattle.paper.specs.Directions.{Goes, to, leaves, stays}
-use Rattle.paper.specs.Setup.{Setup, Cell, cell, cells, goes, isOpen, next}
-use Rattle.paper.specs.State.{State, Day, Last, none, serial, noRain, remembered, freshState, soilAt, snowAt}
+use Rattle.paper.specs.Setup.{Setup, cell, cells, goes, isOpen, next}
+use Rattle.paper.specs.State.{State, Day, none, serial, noRain, remembered, freshState, soilAt, snowAt}
 use Rattle.paper.specs.CellDay.{Today, today, ownOf, passedOf, Figures, cellDay}
 use Rattle.paper.specs.Flow.{arriving, water}
 use Rattle.paper.specs.Refusals.{Verdict, accepted, refused, verdict, setupLengths, setupTests, dayTests}
@@ -29,16 +29,17 @@ freshAs s soil snow (refused r) =
 unfoldable pub freshOf : Setup → List ℕ → List ℕ → Fresh
 freshOf s soil snow = freshAs s soil snow (verdict (setupTests s (setupLengths s ++ length soil ∷ length snow ∷ [])))
 
+-- each cell's outflow for the water that reached it
+unfoldable pub passed : Setup → Today → ℕ → ℕ → ℕ
+passed s t i w = passedOf (cell s i) t w
+
 -- the day's figures of every cell
 module _ (s : Setup) (st : State) (t : Today) where
   unfoldable pub own : ℕ → ℕ
   own i = ownOf (cell s i) t (snowAt st i)
 
-  unfoldable pub passed : ℕ → ℕ → ℕ
-  passed i w = passedOf (cell s i) t w
-
   unfoldable pub inflow : ℕ → ℕ
-  inflow i = arriving (cells s) (next s) passed (water (cells s) (next s) passed own) i
+  inflow i = arriving (cells s) (next s) (passed s t) (water (cells s) (next s) (passed s t) own) i
 
   unfoldable pub figures : ℕ → Figures
   figures i = cellDay (cell s i) t (soilAt st i) (snowAt st i) (inflow i)

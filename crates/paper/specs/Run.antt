@@ -7,7 +7,7 @@ use Rattle.theory.specs.Sums.{sum}
 use Rattle.paper.specs.Setup.{Setup, cells}
 use Rattle.paper.specs.State.{State, Day, soilAt, snowAt}
 use Rattle.paper.specs.Refusals.{accepted}
-use Rattle.paper.specs.Day.{Results, Totals, Outcome, dayOf}
+use Rattle.paper.specs.Day.{Results, Outcome, dayOf}
 
 -- where a run stands: its state, the results of its last day, and what has left the soil and the snow so far
 pub record Standing : Type 0 where

@@ -1,7 +1,7 @@
 -- The setup: grid, season, cover table and cells, and what the rules read of one cell.
 use mathlib.Core.Bool.{Bool, cond, _&&_}
 use mathlib.Core.List.{List}
-use Prim.Native.Nat.{ℕ, zero, suc, _*_}
+use Prim.Native.Nat.{ℕ, suc, _*_}
 use lib.Dec.{eqb, leb}
 use lib.ListN.{getD}
 use Rattle.theory.specs.Lowest.{Found, at, nowhere, lowest, some}

@@ -1,6 +1,6 @@
 -- A proof by the two cases of a test, and what a test and its parts say of each other.
-use mathlib.Core.Path.{_≡_, refl}
-use mathlib.Core.Bool.{Bool, true, false, not, _&&_, _||_}
+use mathlib.Core.Path.{_≡_, refl, sym}
+use mathlib.Core.Bool.{Bool, true, false, cond, _&&_, true≢false}
 use Prim.Native.Nat.{ℕ, _≤_, _<_}
 use lib.Dec.{ltb}
 use borrow.Author.Tests.{ltb-true, ltb-false}
@@ -24,3 +24,11 @@ and-right false false e = e
 pub and-both : (a b : Bool) → a ≡ true → b ≡ true → (a && b) ≡ true
 and-both true b ea eb = eb
 and-both false b ea eb = ea
+
+pub cond-true : {A : Type 0} (b : Bool) → b ≡ true → (x y : A) → cond b x y ≡ x
+cond-true true e x y = refl
+cond-true false e x y = absurd (true≢false (sym e))
+
+pub cond-false : {A : Type 0} (b : Bool) → b ≡ false → (x y : A) → cond b x y ≡ y
+cond-false true e x y = absurd (true≢false e)
+cond-false false e x y = refl

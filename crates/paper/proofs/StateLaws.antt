@@ -1,0 +1,39 @@
+-- The memory holds the five previous days and no other, today's condition goes by them alone, and a fresh state is within the limits.
+use mathlib.Core.Path.{_≡_, refl}
+use mathlib.Core.Bool.{true}
+use Prim.Native.Nat.{ℕ, suc, _<_, _≤_, zero-le}
+use native.Mathlib.Nat.{le-refl}
+use lib.Dec.{ltb}
+use borrow.Author.Tests.{le-leb, ltb-true}
+use Rattle.theory.proofs.Cases.{byCases, and-both, cond-true, cond-false}
+use Rattle.theory.proofs.ListLaws.{made-at}
+use Rattle.paper.specs.Setup.{Setup, cell, cells}
+use Rattle.paper.specs.State.{Day, Memory, remembered, freshState, mostSoilOf, mostSnowOf, soilAt, snowAt, storesFit, memoryFits, lastFits}
+use Rattle.paper.specs.CellDay.{today}
+use Rattle.paper.specs.Refusals.{stateFits}
+
+-- after five days nothing older is left
+pub five-days : (m : Memory) (a b c d e : ℕ)
+    → remembered (remembered (remembered (remembered (remembered m a) b) c) d) e
+    ≡ record { oldest = a; fourth = b; third = c; second = d; yesterday = e }
+unfolding remembered
+five-days m a b c d e = refl
+
+-- today's gross precipitation is not counted in the condition
+pub today-not-counted : (s : Setup) (m : Memory) (d e : Day) → d .dayOfYear ≡ e .dayOfYear
+    → today s m d .condition ≡ today s m e .condition
+unfolding today
+today-not-counted s m d e same = rw same refl
+
+pub fresh-fits : (s : Setup) (i : ℕ) → i < suc (cells s) → stateFits s (freshState s) i ≡ true
+unfolding stateFits freshState storesFit memoryFits lastFits
+fresh-fits s i h =
+    byCases (ltb i (cells s))
+    (λ e.
+    let inside : i < cells s = ltb-true i (cells s) e in
+    let soil : soilAt (freshState s) i ≤ mostSoilOf (cell s i)
+    = rw (made-at (cells s) (λ j. mostSoilOf (cell s j)) 0 i inside) (le-refl (mostSoilOf (cell s i))) in
+    let snow : snowAt (freshState s) i ≤ mostSnowOf (cell s i)
+    = rw (made-at {A = ℕ} (cells s) (λ j. 0) 0 i inside) zero-le in
+    rw (cond-true (ltb i (cells s)) e) (and-both _ _ (le-leb _ _ soil) (le-leb _ _ snow)))
+    (λ e. rw (cond-false (ltb i (cells s)) e) refl)
