@@ -151,7 +151,7 @@ module _ (s : Setup) (lengths : List ℕ) (ok : Sound s lengths) where
       go nowhere found t = absurd (false≢true t)
 
   pub sound-cell : (i : ℕ) → i < cells s → SoundCell (cell s i)
-  unfolding cell cellFits
+  unfolding cell cellFits groupFits
   sound-cell i h =
       let e : ℕ = entryOf s i in
       let fits : entryFits (s .covers) e ≡ true = ok .entered e (entry-in i h .0) in

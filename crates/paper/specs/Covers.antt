@@ -20,7 +20,7 @@ abbrev pub numberOf : List ℕ → ℕ → ℕ → ℕ
 numberOf covers e k = getD covers (16 * e + k) 0
 
 abbrev pub codeOf : List ℕ → ℕ → ℕ
-codeOf covers e = numberOf covers e 0
+codeOf covers e = getD covers (16 * e) 0
 
 abbrev pub openOf : List ℕ → ℕ → ℕ
 openOf covers e = numberOf covers e 1
@@ -47,7 +47,7 @@ entries covers = length covers / 16
 unfoldable pub sizeFits : List ℕ → Bool
 sizeFits covers = eqb (length covers % 16) 0 && within 1 mostCovers (entries covers)
 
-abbrev pub groupFits : List ℕ → ℕ → ℕ → Bool
+unfoldable pub groupFits : List ℕ → ℕ → ℕ → Bool
 groupFits covers e group =
     within leastCurveNumber mostCurveNumber (curveNumberOf covers e group)
     && leb (largestOf covers e group) mostLargestRecharge

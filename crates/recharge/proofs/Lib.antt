@@ -1,0 +1,5 @@
+pub mod PlaceLaws
+pub mod CoverLaws
+pub mod Temperatures
+pub mod RetentionTable
+pub mod LossRoom

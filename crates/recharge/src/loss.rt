@@ -1,0 +1,45 @@
+// Rule 8: what a shortfall takes from the soil.
+ghost use mathlib.Core.Path.{_≡_};
+ghost use Prim.Native.Nat.{_≤_, _<_};
+ghost use Rattle.paper.specs.Limits.{mostPotential};
+ghost use Rattle.paper.specs.Retention.{L, loss as rule8};
+ghost use Rattle.recharge.specs.Quantities.{mostCapacity};
+ghost use Rattle.recharge.specs.Retention.{table};
+use crate::quantities::Depth;
+
+fn wide(x: u32) -> u64
+    ensures { λ r. ⌜ r ≡ x ⌝ }
+{
+    x as u64
+}
+
+// L of the paper: the share of the soil's water that is lost, in parts of 1,048,576 × capacity. Nothing is rounded in it.
+fn share_lost(f: &[u32; 2049], capacity: Depth, shortfall: Depth) -> u64
+    requires { ⌜ (0 < capacity .0) × (capacity .0 ≤ mostCapacity) × (shortfall .0 ≤ mostPotential) × (now f ≡ table) ⌝ }
+    ensures { λ r. ⌜ r ≡ L (capacity .0) (shortfall .0) ⌝ }
+{
+    let most = capacity.0;
+    let d = shortfall.0;
+    let parts = 256 * d;
+    let k = parts / most;
+    if k < 2048 {
+        let i = k as usize;
+        let here = wide(f[i]);
+        let next = wide(f[i + 1]);
+        (1048576 - here) * most + (here - next) * (parts - k * most)
+    } else {
+        (1048576 - wide(f[2048])) * most
+    }
+}
+
+pub(crate) fn loss(f: &[u32; 2049], capacity: Depth, soil: Depth, shortfall: Depth) -> Depth
+    requires { ⌜ (capacity .0 ≤ mostCapacity) × (soil .0 ≤ capacity .0) × (shortfall .0 ≤ mostPotential) × (now f ≡ table) ⌝ }
+    ensures { λ r. ⌜ r .0 ≡ rule8 (capacity .0) (soil .0) (shortfall .0) ⌝ }
+{
+    let most = capacity.0;
+    if most == 0 {
+        return Depth(0);
+    }
+    let water = soil.0;
+    Depth(water * share_lost(f, capacity, shortfall) / (1048576 * most))
+}
