@@ -34,7 +34,7 @@ use Rattle.paper.specs.State.{
 use Rattle.paper.specs.CurveNumber.{curveNumber}
 use Rattle.paper.specs.CellDay.{Today, today, storeOf, passedOf, Figures}
 use Rattle.paper.specs.Flow.{water}
-use Rattle.paper.specs.Refusals.{Refusal, Verdict, accepted, refused, verdict, single, oneEach, setupLengths, setupTests, stateFits, tooDeep, dayTests}
+use Rattle.paper.specs.Refusals.{Refusal, Verdict, accepted, refused, verdict, single, oneEach, setupLengths, setupTests, mapTests, stateFits, tooDeep, dayTests}
 use Rattle.paper.specs.Day.{own, passed, inflow, figures, isGone, isLeaving, Results, noTotals, totalsOf, nextState, Outcome, lengthsOf, verdictOf, figuresOf, outcomeAs, dayOf}
 use Rattle.paper.specs.Run.{stored}
 use Rattle.paper.proofs.SnowLaws.{melt-most}
@@ -62,11 +62,11 @@ not-and false b e f = f
 
 module _ (s : Setup) (st : State) (r : Results) (d : Day) (e : verdictOf s st r d ≡ accepted) where
   day-passes : (k : ℕ) → k < 10 → Passes (testAt (setupTests s (lengthsOf s st r) ++ dayTests s st d) k)
-  unfolding setupTests dayTests verdictOf
+  unfolding setupTests mapTests dayTests verdictOf
   day-passes k h = accepted-passes (setupTests s (lengthsOf s st r) ++ dayTests s st d) e k h
 
   state-fits : (i : ℕ) → i < suc (cells s) → stateFits s st i ≡ true
-  unfolding setupTests dayTests testAt Passes
+  unfolding setupTests mapTests dayTests testAt Passes
   state-fits i h = not-false _ (day-passes 8 (lit< tt) i h)
 
   stores-fit : (i : ℕ) → i < cells s → storesFit s st i ≡ true
@@ -81,7 +81,7 @@ module _ (s : Setup) (st : State) (r : Results) (d : Day) (e : verdictOf s st r 
       ∙ state-fits (cells s) (lt-suc-self (cells s))
 
   pub sound-day : SoundDay s st r d
-  unfolding setupTests dayTests testAt Passes storesFit tooDeep single verdictOf
+  unfolding setupTests mapTests dayTests testAt Passes storesFit tooDeep single verdictOf
   sound-day =
       record {
         setup = sound s (lengthsOf s st r) (dayTests s st d) e;
@@ -148,7 +148,7 @@ module _ (s : Setup) (st : State) (r : Results) (d : Day) (ok : SoundDay s st r 
   -- each cell's curve number is at most 100
   pub small : (i : ℕ) → i < n → curveNumber (t .condition) (cell s i .N) ≤ 100
   small i h =
-      let known : SoundCell (cell s i) = sound-cell s (lengthsOf s st r) (ok .setup) i h in
+      let known : SoundCell (cell s i) = sound-cell s (ok .setup .charted) i h in
       curve-number-limits (t .condition) (cell s i .N) (known .least-N) (known .most-N) .most
 
   pub order : UpslopeFirst n (next s)
@@ -173,8 +173,8 @@ module _ (s : Setup) (st : State) (r : Results) (d : Day) (ok : SoundDay s st r 
       → given (isGone s i) (passed s t i w) + given (ltb (next s i) n) (passed s t i w) ≡ passed s t i w
   unfolding isGone next
   gone-or-inside i h w =
-      one-of (ok .setup .few) (isOpen s i) (goes s i) (passed s t i w) (goes-open s (lengthsOf s st r) (ok .setup) i)
-      (λ j. to-inside s (lengthsOf s st r) (ok .setup) i j h) (closed-none i w)
+      one-of (ok .setup .charted .few) (isOpen s i) (goes s i) (passed s t i w) (goes-open s (ok .setup .charted) i)
+      (λ j. to-inside s (ok .setup .charted) i j h) (closed-none i w)
 
   inflows : sum n (inflow s st t) ≡ sum n (λ i. given (ltb (next s i) n) (figuresOf s st d i .outflow))
   unfolding inflow
@@ -246,7 +246,7 @@ module _ (s : Setup) (st : State) (r : Results) (d : Day) (ok : SoundDay s st r 
 
   pub all-own : sum n (own s st t) < 2000000000
   all-own =
-      omega (arith, sum-most n (own s st t) 450000 (λ i h. own-limit i), mul-le-mul-right 450000 (ok .setup .few))
+      omega (arith, sum-most n (own s st t) 450000 (λ i h. own-limit i), mul-le-mul-right 450000 (ok .setup .charted .few))
 
   pub water-limit : (i : ℕ) → i < n → W i < 2000000000
   water-limit i h =

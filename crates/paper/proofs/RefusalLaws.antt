@@ -2,15 +2,15 @@
 -- at its lowest place, with every test before it passing. Of a day's ten tests the one at k has the paper's number k + 1 and names its own
 -- place, so each row of the paper's table is given exactly when it says, at its place.
 use mathlib.Core.Path.{_≡_, refl, sym, ap, _∙_, subst}
-use mathlib.Core.Bool.{true, false}
+use mathlib.Core.Bool.{Bool, true, false, true≢false, false≢true}
 use mathlib.Core.List.{List, [], _∷_, _++_}
 use Prim.Native.Nat.{ℕ, zero, suc, _+_, _<_, suc-le-suc}
 use native.Mathlib.Nat.{not-suc-le-zero, le-of-suc-le-suc, zero-lt-suc, add-zero, add-suc, suc-add}
 use native.Mathlib.Omega.{arith}
 use lib.ListN.{length}
-use Rattle.theory.specs.Lowest.{Found, at, nowhere, lowest}
+use Rattle.theory.specs.Lowest.{Found, at, nowhere, orAt, lowest}
 use Rattle.theory.proofs.LowestLaws.{lowest-at, at-lowest, lowest-none, none-lowest}
-use Rattle.paper.specs.Refusals.{Refusal, grid, Verdict, accepted, refused, Test, judged, verdict, single, numberOf, placeOf, setupTests, dayTests}
+use Rattle.paper.specs.Refusals.{Refusal, grid, Verdict, accepted, refused, Test, judged, verdict, single, numberOf, placeOf, setupTests, mapTests, dayTests}
 use Rattle.paper.specs.Setup.{Setup}
 use Rattle.paper.specs.State.{State, Day}
 
@@ -104,6 +104,46 @@ first-at (t ∷ ts) (suc k) i h before here =
 pub first-refused : (ts : List Test) (why : Refusal) → FirstFailing ts why → verdict ts ≡ refused why
 first-refused ts why f = first-at ts (f .k) (f .i) (f .inside) (f .before) (f .here) ∙ ap refused (f .named)
 
+-- one test after another
+module _ (ts : List Test) where
+  pub pass-single : (fits : Bool) (r : Refusal) → fits ≡ true → verdict (single fits r ∷ ts) ≡ verdict ts
+  unfolding verdict judged single lowest orAt
+  pass-single true r e = refl
+  pass-single false r e = absurd (false≢true e)
+
+  pub fail-single : (fits : Bool) (r : Refusal) → fits ≡ false → verdict (single fits r ∷ ts) ≡ refused r
+  unfolding verdict judged single lowest orAt
+  fail-single true r e = absurd (true≢false e)
+  fail-single false r e = refl
+
+  pub pass-many : (t : Test) → lowest (t .places) (t .fails) ≡ nowhere → verdict (t ∷ ts) ≡ verdict ts
+  unfolding verdict judged
+  pass-many t e = rw e refl
+
+  pub fail-many : (t : Test) (i : ℕ) → lowest (t .places) (t .fails) ≡ at i → verdict (t ∷ ts) ≡ refused (t .called i)
+  unfolding verdict judged
+  fail-many t i e = rw e refl
+
+  pub accepted-then : (us : List Test) → verdict us ≡ accepted → verdict (us ++ ts) ≡ verdict ts
+  unfolding verdict
+  accepted-then [] e = refl
+  accepted-then (u ∷ us) e = go (lowest (u .places) (u .fails)) refl e (accepted-then us)
+    where
+      go : (f : Found) → lowest (u .places) (u .fails) ≡ f → judged f (u .called) (verdict us) ≡ accepted
+          → (verdict us ≡ accepted → verdict (us ++ ts) ≡ verdict ts) → judged f (u .called) (verdict (us ++ ts)) ≡ verdict ts
+      go (at i) found v rest = absurd (unfold judged in (let z : _≡_ {A = ℕ} 0 1 = cc in omega arith))
+      go nowhere found v rest = unfold judged in (rest v)
+
+  pub refused-then : (us : List Test) (why : Refusal) → verdict us ≡ refused why → verdict (us ++ ts) ≡ refused why
+  unfolding verdict
+  refused-then [] why e = absurd (let z : _≡_ {A = ℕ} 0 1 = cc in omega arith)
+  refused-then (u ∷ us) why e = go (lowest (u .places) (u .fails)) refl e (refused-then us why)
+    where
+      go : (f : Found) → lowest (u .places) (u .fails) ≡ f → judged f (u .called) (verdict us) ≡ refused why
+          → (verdict us ≡ refused why → verdict (us ++ ts) ≡ refused why) → judged f (u .called) (verdict (us ++ ts)) ≡ refused why
+      go (at i) found v rest = unfold judged in v
+      go nowhere found v rest = unfold judged in (rest v)
+
 -- the test has the number, and names its own place
 unfoldable pub Named : ℕ → Test → Type 0
 Named number t = (i : ℕ) → i < t .places → (numberOf (t .called i) ≡ number) × (placeOf (t .called i) ≡ i)
@@ -172,7 +212,7 @@ zeroth : (i : ℕ) → i < 1 → 0 ≡ i
 zeroth i h = omega arith
 
 pub setup-numbered : (s : Setup) (lengths : List ℕ) → Numbered 1 (setupTests s lengths)
-unfolding Numbered Named setupTests single numberOf placeOf
+unfolding Numbered Named setupTests mapTests single numberOf placeOf
 setup-numbered s lengths = (
   λ i h. (refl, zeroth i h),
   (
@@ -191,7 +231,7 @@ setup-numbered s lengths = (
 )
 
 pub day-numbered : (s : Setup) (lengths : List ℕ) (st : State) (d : Day) → Numbered 1 (setupTests s lengths ++ dayTests s st d)
-unfolding Numbered Named setupTests dayTests single numberOf placeOf
+unfolding Numbered Named setupTests mapTests dayTests single numberOf placeOf
 day-numbered s lengths st d =
     numbered-both 1 (setupTests s lengths) (dayTests s st d) (setup-numbered s lengths)
     (λ i h. (refl, zeroth i h), (λ i h. (refl, zeroth i h), (λ i h. (refl, refl), (λ i h. (refl, refl), tt))))

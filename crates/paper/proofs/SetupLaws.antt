@@ -9,7 +9,7 @@ use native.Mathlib.Nat.{le-trans, not-suc-le-zero, mul-le-mul, mul-le-mul-right,
 use native.Mathlib.Omega.{arith}
 use lib.Dec.{eqb, leb, ltb, lit<, lit≤}
 use lib.ListN.{length, getD, List·getD-eq-default}
-use borrow.Author.Tests.{leb-true, ltb-true, eqb-true, not-false}
+use borrow.Author.Tests.{leb-true, ltb-true, eqb-true, ne-eqb, not-false}
 use Rattle.theory.specs.Lowest.{Found, at, nowhere, lowest, some, isFound}
 use Rattle.theory.specs.Ways.{OneWay, UpslopeFirst, onRing}
 use Rattle.theory.proofs.Cases.{byCases, and-left, and-right, cond-true, cond-false}
@@ -17,20 +17,24 @@ use Rattle.theory.proofs.LowestLaws.{lowest-at}
 use Rattle.theory.proofs.WayLaws.{ring-free, free-order}
 use Rattle.paper.specs.Limits.{mostCells, mostInterception}
 use Rattle.paper.specs.Covers.{entries, sizeFits, entryFits, groupFits, codeOf, growingOf, dormantOf}
-use Rattle.paper.specs.Directions.{Step, less, same, more, Way, toward, closed, stepped, to, stays, cellAt, goesBy, wayOf}
-use Rattle.paper.specs.Setup.{Setup, Cell, cell, cells, gridFits, seasonFits, coverOf, groupOf, entryOf, place, cellFits, isOpen, goes, pointed, next}
-use Rattle.paper.specs.Refusals.{Refusal, Test, accepted, verdict, single, oneEach, coverPlaces, coverFits, setupTests}
+use Rattle.paper.specs.Directions.{Step, less, same, more, Way, toward, closed, stepped, Goes, to, leaves, stays, cellAt, goesBy, wayOf}
+use Rattle.paper.specs.Setup.{Setup, Cell, cell, cells, gridFits, seasonFits, coverOf, groupOf, entryOf, place, cellFits, isOpen, goes, pointed, isClosed, next}
+use Rattle.paper.specs.Refusals.{Refusal, Test, accepted, verdict, single, oneEach, coverPlaces, coverFits, setupTests, mapTests}
 use Rattle.paper.proofs.RefusalLaws.{Passes, testAt, accepted-passes}
 
--- what tests 1 to 6 leave standing, with the lengths of the lent slices
-pub record Sound (s : Setup) (lengths : List ℕ) : Type 0 where
+-- what tests 1, 3 and 4 leave standing
+pub record Charted (s : Setup) : Type 0 where
   pub wide : 1 ≤ s .width
   pub high : 1 ≤ s .height
   pub few : cells s ≤ mostCells
-  pub lent : oneEach (cells s) lengths ≡ true
   pub sized : sizeFits (s .covers) ≡ true
   pub entered : (e : ℕ) → e < entries (s .covers) → entryFits (s .covers) e ≡ true
   pub celled : (i : ℕ) → i < cells s → cellFits s i ≡ true
+
+-- what tests 1 to 6 leave standing, with the lengths of the lent slices
+pub record Sound (s : Setup) (lengths : List ℕ) : Type 0 where
+  pub charted : Charted s
+  pub lent : oneEach (cells s) lengths ≡ true
   pub ringless : (i : ℕ) → i < cells s → onRing (cells s) (next s) i ≡ false
   pub seasoned : seasonFits s ≡ true
 
@@ -40,11 +44,11 @@ single-passes fits r p = not-false fits (p 0 (zero-lt-suc 0))
 
 module _ (s : Setup) (lengths : List ℕ) (more : List Test) (e : verdict (setupTests s lengths ++ more) ≡ accepted) where
   passes : (k : ℕ) → k < 6 → Passes (testAt (setupTests s lengths ++ more) k)
-  unfolding setupTests
+  unfolding setupTests mapTests
   passes k h = accepted-passes (setupTests s lengths ++ more) e k (le-trans h (omega arith))
 
   covered : (e : ℕ) → e < coverPlaces (s .covers) → (sizeFits (s .covers) && entryFits (s .covers) e) ≡ true
-  unfolding setupTests testAt Passes coverFits
+  unfolding setupTests mapTests testAt Passes coverFits
   covered e h = not-false _ (passes 2 (lit< tt) e h)
 
   covered-size : sizeFits (s .covers) ≡ true
@@ -54,17 +58,20 @@ module _ (s : Setup) (lengths : List ℕ) (more : List Test) (e : verdict (setup
       (λ f. and-left _ _ (covered 0 (rw (cond-false (sizeFits (s .covers)) f) (zero-lt-suc 0))))
 
   pub sound : Sound s lengths
-  unfolding setupTests testAt Passes gridFits coverPlaces
+  unfolding setupTests mapTests testAt Passes gridFits coverPlaces
   sound =
       let grid : gridFits s ≡ true = single-passes _ _ (passes 0 (lit< tt)) in
       record {
-        wide = leb-true _ _ (and-left _ _ (and-left _ _ grid));
-        high = leb-true _ _ (and-right (leb 1 (s .width)) _ (and-left _ _ grid));
-        few = leb-true _ _ (and-right (leb 1 (s .width) && leb 1 (s .height)) _ grid);
+        charted =
+            record {
+              wide = leb-true _ _ (and-left _ _ (and-left _ _ grid));
+              high = leb-true _ _ (and-right (leb 1 (s .width)) _ (and-left _ _ grid));
+              few = leb-true _ _ (and-right (leb 1 (s .width) && leb 1 (s .height)) _ grid);
+              sized = covered-size;
+              entered = λ e h. and-right (sizeFits (s .covers)) _ (covered e (rw (cond-true (sizeFits (s .covers)) covered-size) h));
+              celled = λ i h. not-false _ (passes 3 (lit< tt) i h);
+            };
         lent = single-passes _ _ (passes 1 (lit< tt));
-        sized = covered-size;
-        entered = λ e h. and-right (sizeFits (s .covers)) _ (covered e (rw (cond-true (sizeFits (s .covers)) covered-size) h));
-        celled = λ i h. not-false _ (passes 3 (lit< tt) i h);
         ringless = passes 4 (lit< tt);
         seasoned = single-passes _ _ (passes 5 (lit< tt));
       }
@@ -134,7 +141,7 @@ interception-fits covers e fits = (leb-true _ _ (search (and-left, and-right)), 
 stays-not-to : {j : ℕ} → stays ≡ to j → ⊥
 stays-not-to e = let z : _≡_ {A = ℕ} 0 1 = cc in omega arith
 
-module _ (s : Setup) (lengths : List ℕ) (ok : Sound s lengths) where
+module _ (s : Setup) (ok : Charted s) where
   -- a cell's entry is in the table, and has its code
   pub entry-in : (i : ℕ) → i < cells s → (entryOf s i < entries (s .covers)) × (codeOf (s .covers) (entryOf s i) ≡ coverOf s i)
   unfolding entryOf place cellFits some isFound
@@ -184,6 +191,19 @@ module _ (s : Setup) (lengths : List ℕ) (ok : Sound s lengths) where
       byCases (isOpen s i) (λ o. absurd (stays-not-to (sym (goes-open i o) ∙ e)))
       (λ o. goes-inside (s .width) (s .height) i _ j (ok .wide) h (sym (goes-land i o) ∙ e))
 
+  -- no cell but one that stays has the number 4,097
+  pub closed-by : (i : ℕ) → i < cells s → isClosed (goes s i) ≡ eqb (next s i) 4097
+  unfolding next pointed isClosed
+  closed-by i h = go (goes s i) (λ j. to-inside i j h)
+    where
+      go : (g : Goes) → ((j : ℕ) → g ≡ to j → j < cells s) → isClosed g ≡ eqb (pointed g) 4097
+      go (to j) inside =
+          let few : cells s ≤ 4096 = ok .few in
+          let low : j < cells s = inside j refl in
+          sym (ne-eqb j 4097 (λ (same : j ≡ 4097). omega arith))
+      go leaves inside = refl
+      go stays inside = refl
+
   -- past the last cell nothing points inside
   module _ (each : length (s .direction) ≡ cells s) where
     past : (i : ℕ) → cells s ≤ i → goes s i ≡ stays
@@ -194,9 +214,14 @@ module _ (s : Setup) (lengths : List ℕ) (ok : Sound s lengths) where
         ∙ ap (λ (byte : ℕ). goesBy (s .width) (s .height) i (wayOf byte))
         (List·getD-eq-default (s .direction) 0 (rw each h)))
 
-    pub ways : OneWay (cells s) (next s)
+    pub next-past : (i : ℕ) → cells s ≤ i → next s i ≡ 4097
     unfolding next pointed
-    ways = record { outside = λ i h. rw (past i h) (le-trans (ok .few) (lit≤ tt)) }
+    next-past i h = ap pointed (past i h)
 
-    pub upslope : UpslopeFirst (cells s) (next s)
-    upslope = free-order (cells s) (next s) (ring-free (cells s) (next s) (ok .ringless) ways) ways
+    pub ways : OneWay (cells s) (next s)
+    ways = record { outside = λ i h. rw (next-past i h) (le-trans (ok .few) (lit≤ tt)) }
+
+pub upslope : (s : Setup) (lengths : List ℕ) → Sound s lengths → length (s .direction) ≡ cells s → UpslopeFirst (cells s) (next s)
+upslope s lengths ok each =
+    let out : OneWay (cells s) (next s) = ways s (ok .charted) each in
+    free-order (cells s) (next s) (ring-free (cells s) (next s) (ok .ringless) out) out

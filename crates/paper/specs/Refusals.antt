@@ -90,16 +90,18 @@ coverPlaces covers = cond (sizeFits covers) (entries covers) 1
 unfoldable pub coverFits : List ℕ → ℕ → Bool
 coverFits covers e = sizeFits covers && entryFits covers e
 
--- tests 1 to 6, with the lengths of the lent slices
-unfoldable pub setupTests : Setup → List ℕ → List Test
-setupTests s lengths =
-    single (gridFits s) grid
-    ∷ single (oneEach (cells s) lengths) lent
-    ∷ record { places = coverPlaces (s .covers); fails = λ e. not (coverFits (s .covers) e); called = coverTable }
+-- tests 3 to 6
+unfoldable pub mapTests : Setup → List Test
+mapTests s =
+    record { places = coverPlaces (s .covers); fails = λ e. not (coverFits (s .covers) e); called = coverTable }
     ∷ record { places = cells s; fails = λ i. not (cellFits s i); called = cellNumbers }
     ∷ record { places = cells s; fails = λ i. onRing (cells s) (next s) i; called = ring }
     ∷ single (seasonFits s) season
     ∷ []
+
+-- tests 1 to 6, with the lengths of the lent slices
+unfoldable pub setupTests : Setup → List ℕ → List Test
+setupTests s lengths = single (gridFits s) grid ∷ single (oneEach (cells s) lengths) lent ∷ mapTests s
 
 -- 9: each cell's stores, then the memory and the last serial at the cell count
 unfoldable pub stateFits : Setup → State → ℕ → Bool

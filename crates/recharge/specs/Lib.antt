@@ -5,3 +5,7 @@ pub mod Retention
 pub mod Soil
 pub mod Calls
 pub mod Cells
+pub mod Slots
+pub mod Routes
+pub mod Peeling
+pub mod Survey

@@ -7,6 +7,7 @@ ghost use Rattle.theory.specs.Lowest.{lowest};
 ghost use Rattle.paper.specs.Covers.{entries, sizeFits, rises as risesAt, groupFits, entryFits};
 ghost use Rattle.recharge.specs.Covers.{placeIn, EntriesFit, Indexed};
 use crate::answers::Place;
+use crate::widening::place;
 
 pub fn size_fits(covers: &[u32]) -> bool
     ensures { λ r. ⌜ r ≡ sizeFits (now (covers .entry)) ⌝ }
@@ -99,12 +100,6 @@ pub fn bad_entry(covers: &[u32]) -> Place
     Place::Nowhere
 }
 
-fn wide(x: u32) -> usize
-    ensures { λ r. ⌜ r ≡ x ⌝ }
-{
-    x as usize
-}
-
 // Fills the index by code: one more than the entry.
 pub fn index_codes(covers: &[u32], index: &mut [u32; 256])
     requires { ⌜ EntriesFit (now covers) × (now index ≡ replicate 256 0) ⌝ }
@@ -113,7 +108,7 @@ pub fn index_codes(covers: &[u32], index: &mut [u32; 256])
     let count = covers.len() / 16;
     let mut e = 0;
     while e < count {
-        let code = wide(covers[16 * e]);
+        let code = place(covers[16 * e]);
         index[code] = (e + 1) as u32;
         e += 1;
     }

@@ -20,17 +20,17 @@ abbrev μ-loop : tie.MeasureT-loop
 loop-holds : tie.Need-loop-holds Inv-loop μ-loop
 loop-holds c = (search needs, search needs, index-none _ (c .before .pre .0) _ (c .before .pre .1))
 
-mul-wide : tie.Need-mul-wide Inv-loop μ-loop
-mul-wide c = search needs
+mul-place : tie.Need-mul-place Inv-loop μ-loop
+mul-place c = search needs
 
-mul-wide-2 : tie.Need-mul-wide-2 Inv-loop μ-loop
-mul-wide-2 c = search needs
+mul-place-2 : tie.Need-mul-place-2 Inv-loop μ-loop
+mul-place-2 c = search needs
 
-shared-slice-read-wide : tie.Need-shared-slice-read-wide Inv-loop μ-loop
-shared-slice-read-wide c = search needs
+shared-slice-read-place : tie.Need-shared-slice-read-place Inv-loop μ-loop
+shared-slice-read-place c = search needs
 
-wide-requires : tie.Need-wide-requires Inv-loop μ-loop
-wide-requires c κs = search needs
+place-requires : tie.Need-place-requires Inv-loop μ-loop
+place-requires c κs = search needs
 
 add-index : tie.Need-add-index Inv-loop μ-loop
 add-index c = search needs
@@ -40,15 +40,15 @@ unfolding entries
 cast-index c = omega (arith, count-limit _ (c .before .before .before .before .before .pre .0))
 
 -- the code that is read is below 256
-code-small : (c : tie.After-wide Inv-loop μ-loop) → codeOf (c .before .before .before .before .before .args .covers .now) (c .before .before .before .loop .e) < 256
+code-small : (c : tie.After-place Inv-loop μ-loop) → codeOf (c .before .before .before .before .before .args .covers .now) (c .before .before .before .loop .e) < 256
 unfolding entries
 code-small c = code-limit _ (c .before .before .before .before .before .pre .0) _ (c .before .before .loop-test .taken)
 
 mul-index : tie.Need-mul-index Inv-loop μ-loop
-mul-index c = omega (arith, c .wide .ensures, code-small c)
+mul-index c = omega (arith, c .place .ensures, code-small c)
 
 element-write-index : tie.Need-element-write-index Inv-loop μ-loop
-element-write-index c = rw (c .wide .ensures) (code-small c)
+element-write-index c = rw (c .place .ensures) (code-small c)
 
 add-e : tie.Need-add-e Inv-loop μ-loop
 add-e c = search needs
@@ -61,7 +61,7 @@ unfolding entries
 loop-again c = (
   search needs,
   search needs,
-  rw (c .wide .ensures, add-one (c .before .before .before .loop .e))
+  rw (c .place .ensures, add-one (c .before .before .before .loop .e))
       (index-more _ (c .before .before .before .before .before .pre .0) _ _ (c .before .before .loop-test .taken) (c .before .before .before .loop .inv .2)),
 )
 
@@ -78,10 +78,10 @@ index-codes-spec =
     Inv-loop
     μ-loop
     loop-holds
-    mul-wide
-    mul-wide-2
-    shared-slice-read-wide
-    wide-requires
+    mul-place
+    mul-place-2
+    shared-slice-read-place
+    place-requires
     add-index
     cast-index
     mul-index

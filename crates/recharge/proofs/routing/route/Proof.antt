@@ -1,0 +1,165 @@
+-- `recharge::routing::route` meets its contract. The invariant: at turn t each cell holds its own water and what the cells of earlier turns passed to
+-- it, and those have their outflows stored. The cell whose turn it is then holds all that reaches it, and the laws on routing take each turn.
+use Rattle.recharge.proofs.routing.route.Statement.{statement}
+use mathlib.Core.Path.{_≡_, sym, _∙_, subst}
+use mathlib.Core.List.{List}
+use mathlib.Core.Logic.{⊎-elim}
+use Prim.Native.Nat.{ℕ, _+_, _<_, _-_}
+use native.Mathlib.Omega.{arith}
+use borrow.Author.Needs.{needs}
+use lib.ListN.{set}
+use Rattle.recharge.specs.Routes.{nextIn}
+use Rattle.recharge.proofs.QueueLaws.{way-next}
+use Rattle.recharge.proofs.RoutingLaws.{Routing, routing-starts, cell-inside, cell-little, routing-outside, routing-fits, routing-inside, routing-ends}
+use Rattle.recharge.proofs.routing.route.Tie as tie
+
+abbrev Inv-loop : tie.InvT-loop
+Inv-loop n ways order rules water₀ outflow₀ t₀ water outflow t = Routing n ways order rules water₀ outflow₀ t water outflow
+
+abbrev μ-loop : tie.MeasureT-loop
+μ-loop n ways order rules water₀ outflow₀ t₀ water outflow t = n - t
+
+abbrev looping : tie.After-place Inv-loop μ-loop → tie.At-loop Inv-loop μ-loop
+looping w = w .before .before .before
+
+abbrev starting : tie.After-place Inv-loop μ-loop → tie.Start Inv-loop μ-loop
+starting w = w .before .before .before .before .before
+
+-- the cell whose turn it is
+below : (w : tie.After-place Inv-loop μ-loop) → w .place .result < starting w .args .n
+below w = cell-inside (looping w .loop .inv) (w .before .before .loop-test .taken) (w .place .result) (w .place .ensures)
+
+in-array : (w : tie.After-place Inv-loop μ-loop) → w .place .result < 4096
+in-array w = omega (arith, below w, starting w .pre .pointing .most)
+
+abbrev came : tie.After-place2 Inv-loop μ-loop → tie.After-place Inv-loop μ-loop
+came w = w .before .before .before .before .before
+
+-- where it points
+way : (w : tie.After-place2 Inv-loop μ-loop) → nextIn (starting (came w) .args .ways .now) (came w .place .result) ≡ w .place2 .result
+way w =
+    sym (way-next (starting (came w) .pre .pointing) (came w .place .result) (in-array (came w))) ∙ sym (w .place2 .ensures)
+
+loop-holds : tie.Need-loop-holds Inv-loop μ-loop
+loop-holds c = routing-starts (c .before .pre)
+
+mul-place : tie.Need-mul-place Inv-loop μ-loop
+mul-place c = search needs
+
+element-copy-out-place : tie.Need-element-copy-out-place Inv-loop μ-loop
+element-copy-out-place c = let s = c .before .before .before in omega (arith, s .pre .pointing .most)
+
+place-requires : tie.Need-place-requires Inv-loop μ-loop
+place-requires c κs = search needs
+
+mul-passed : tie.Need-mul-passed Inv-loop μ-loop
+mul-passed c = let h = in-array c in search needs
+
+element-copy-out-passed : tie.Need-element-copy-out-passed Inv-loop μ-loop
+element-copy-out-passed c = in-array c
+
+mul-passed-2 : tie.Need-mul-passed-2 Inv-loop μ-loop
+mul-passed-2 c = let h = in-array (c .before) in search needs
+
+element-copy-out-passed-2 : tie.Need-element-copy-out-passed-2 Inv-loop μ-loop
+element-copy-out-passed-2 c = in-array (c .before)
+
+passed-requires : tie.Need-passed-requires Inv-loop μ-loop
+passed-requires c κs = let w = c .before .before in (
+  starting w .pre .coded (w .place .result) (below w),
+  cell-little (looping w .loop .inv) (w .before .before .loop-test .taken) (w .place .result) (w .place .ensures),
+)
+
+mul-outflow : tie.Need-mul-outflow Inv-loop μ-loop
+mul-outflow c = let h = in-array (c .before .before .before) in search needs
+
+slice-write-outflow : tie.Need-slice-write-outflow Inv-loop μ-loop
+slice-write-outflow c = let w = c .before .before .before in omega (arith, below w, looping w .loop .inv .turn .one-each)
+
+mul-place-2 : tie.Need-mul-place-2 Inv-loop μ-loop
+mul-place-2 c = let h = in-array (c .before .before .before) in search needs
+
+element-copy-out-place-2 : tie.Need-element-copy-out-place-2 Inv-loop μ-loop
+element-copy-out-place-2 c = in-array (c .before .before .before)
+
+place-requires-2 : tie.Need-place-requires-2 Inv-loop μ-loop
+place-requires-2 c κs = search needs
+
+mul-water : tie.Need-mul-water Inv-loop μ-loop
+mul-water c = let m = starting (came (c .before)) .pre .pointing .most in search needs
+
+element-copy-out-water : tie.Need-element-copy-out-water Inv-loop μ-loop
+element-copy-out-water c = let m = starting (came (c .before)) .pre .pointing .most in omega arith
+
+add-water : tie.Need-add-water Inv-loop μ-loop
+add-water c = let p = c .before .before in
+    let w = came p in
+    record {
+      fits = omega (
+        arith,
+        routing-fits (looping w .loop .inv) (w .before .before .loop-test .taken) (w .place .result) (w .place .ensures)
+            (p .before .before .passed .result) (p .before .before .passed .ensures) (p .place2 .result) (way p) (c .before .if1 .taken),
+      );
+    }
+
+element-write-water : tie.Need-element-write-water Inv-loop μ-loop
+element-write-water c = let m = starting (came (c .before .before)) .pre .pointing .most in omega arith
+
+add-t : tie.Need-add-t Inv-loop μ-loop
+add-t c = search needs
+
+loop-less : tie.Need-loop-less Inv-loop μ-loop
+loop-less c = search needs
+
+loop-again : tie.Need-loop-again Inv-loop μ-loop
+loop-again c = let p = c .before in
+    let w = came p in
+    let s = starting w .args in
+    let out = p .before .before .passed .result in
+    let after : List ℕ → Type 0 = λ l. Routing (s .n) (s .ways .now) (s .order .now) (s .rules .now) (s .water .now)
+    (s .outflow .now) (looping w .loop .t + 1) l
+    (set (looping w .loop .outflow) (w .place .result) out) in
+    ⊎-elim
+    (λ x. subst after (sym (x .2))
+    (routing-inside (looping w .loop .inv) (w .before .before .loop-test .taken) (w .place .result) (w .place .ensures) out (p .before .before .passed .ensures)
+    (p .place2 .result) (way p) (x .0 .taken)))
+    (λ x. subst after (sym (x .1))
+    (routing-outside (looping w .loop .inv) (w .before .before .loop-test .taken) (w .place .result) (w .place .ensures) out (p .before .before .passed .ensures)
+    (omega (arith, way p, x .0 .left))))
+    (c .if1 .came)
+
+same-length : tie.Need-same-length Inv-loop μ-loop
+same-length c = c .before .loop .inv .turn .one-each ∙ sym (c .before .before .before .pre .one-each)
+
+returns : tie.Need-returns Inv-loop μ-loop
+returns c = routing-ends (c .before .loop .inv) (c .loop-test .left)
+
+pub route-spec : {M : Type 1} → statement M
+route-spec =
+    tie.close
+    (tie.spec
+    Inv-loop
+    μ-loop
+    loop-holds
+    mul-place
+    element-copy-out-place
+    place-requires
+    mul-passed
+    element-copy-out-passed
+    mul-passed-2
+    element-copy-out-passed-2
+    passed-requires
+    mul-outflow
+    slice-write-outflow
+    mul-place-2
+    element-copy-out-place-2
+    place-requires-2
+    mul-water
+    element-copy-out-water
+    add-water
+    element-write-water
+    add-t
+    loop-less
+    loop-again
+    same-length
+    returns)

@@ -1,0 +1,62 @@
+-- Peeling the cells off upslope first, in one array: entry i is 8192 × the number of cells that i still waits for, plus the cell that stands
+-- at place i of the queue. The queue holds the cells that wait for none; the first `head` of them are taken.
+use mathlib.Core.Path.{_≡_}
+use mathlib.Core.List.{List}
+use Prim.Native.Nat.{ℕ, _+_, _*_, _/_, _%_, _≤_, _<_}
+use lib.Dec.{eqb}
+use lib.ListN.{length, getD}
+use Rattle.theory.specs.Sums.{sum, given}
+
+-- 1 where j leads to i
+unfoldable pub leading : (ℕ → ℕ) → ℕ → ℕ → ℕ
+leading next i j = given (eqb (next j) i) 1
+
+unfoldable pub waits : List ℕ → ℕ → ℕ
+waits l i = getD l i 0 / 8192
+
+unfoldable pub queued : List ℕ → ℕ → ℕ
+queued l t = getD l t 0 % 8192
+
+-- each entry has the number of cells below k that lead there, and no queue
+pub record Counted (n : ℕ) (next : ℕ → ℕ) (k : ℕ) (l : List ℕ) : Type 0 where
+  pub sized : length l ≡ 4096
+  pub counts : (i : ℕ) → i < n → getD l i 0 ≡ 8192 * sum k (leading next i)
+
+-- the counts of n cells, and no queue
+pub record Blank (n : ℕ) (l : List ℕ) : Type 0 where
+  pub most : n ≤ 4096
+  pub sized : length l ≡ 4096
+  pub few : (t : ℕ) → t < n → waits l t ≤ 4096
+  pub blank : (t : ℕ) → t < n → queued l t ≡ 0
+
+-- the queue of the cells below k that wait for none, in their own order; each waits for as many as were counted
+pub record Gathered (n : ℕ) (counts waits queued : ℕ → ℕ) (k tail : ℕ) : Type 0 where
+  pub short : tail ≤ k
+  pub placed : (t : ℕ) → t < tail → queued t < k
+  pub rising : (s t : ℕ) → s < t → t < tail → queued s < queued t
+  pub free : (t : ℕ) → t < tail → waits (queued t) ≡ 0
+  pub all : (i : ℕ) → i < k → waits i ≡ 0 → (t : ℕ) × (t < tail) × (queued t ≡ i)
+  pub left : (i : ℕ) → i < n → waits i ≡ counts i
+
+-- the queue with `head` cells taken: it has just the cells that wait for none, each once; a cell waits for those that lead to it and are not
+-- taken; and what leads to a cell of the queue stands before it, and is taken
+pub record Queue (n : ℕ) (next waits queued : ℕ → ℕ) (head tail : ℕ) : Type 0 where
+  pub behind : head ≤ tail
+  pub short : tail ≤ n
+  pub placed : (t : ℕ) → t < tail → queued t < n
+  pub once : (s t : ℕ) → s < tail → t < tail → queued s ≡ queued t → s ≡ t
+  pub free : (t : ℕ) → t < tail → waits (queued t) ≡ 0
+  pub all : (i : ℕ) → i < n → waits i ≡ 0 → (t : ℕ) × (t < tail) × (queued t ≡ i)
+  pub left : (i : ℕ) → i < n → waits i + sum head (λ t. leading next i (queued t)) ≡ sum n (leading next i)
+  pub earlier : (t j : ℕ) → t < tail → j < n → next j ≡ queued t → (u : ℕ) × (u < t) × (u < head) × (queued u ≡ j)
+
+-- the array that holds such a queue: nothing stands past its end
+pub record GatheredIn (n : ℕ) (counts : ℕ → ℕ) (k tail : ℕ) (l : List ℕ) : Type 0 where
+  pub sized : length l ≡ 4096
+  pub queue : Gathered n counts (waits l) (queued l) k tail
+  pub blank : (t : ℕ) → tail ≤ t → t < n → queued l t ≡ 0
+
+pub record QueueIn (n : ℕ) (next : ℕ → ℕ) (head tail : ℕ) (l : List ℕ) : Type 0 where
+  pub sized : length l ≡ 4096
+  pub queue : Queue n next (waits l) (queued l) head tail
+  pub blank : (t : ℕ) → tail ≤ t → t < n → queued l t ≡ 0
