@@ -1,5 +1,6 @@
 // The library: the office's rules as code. Each rule is one function, and its contract is one definition of the crate `paper`.
 mod answers;
+mod calls;
 mod cells;
 mod covers;
 mod curve_numbers;
@@ -18,6 +19,9 @@ mod today;
 mod ways;
 mod widening;
 
+pub use answers::Outcome;
+pub use answers::Setup;
+pub use calls::check;
 pub use quantities::CurveNumber;
 pub use quantities::Depth;
 pub use quantities::Memory;
