@@ -1,0 +1,434 @@
+/* Document 01 for speed, with the same interface as plain.c.
+ *
+ * What it does differently:
+ * - a 256-entry index from cover code to table entry;
+ * - all that depends only on cover, group and day is worked out once a day, in `struct plot`;
+ * - a linear-time flow order (Kahn's peeling, following each chain down as far as it goes),
+ *   whose leftovers are exactly the cells on rings;
+ * - water that goes to no cell goes to a number past the last cell, so that routing needs no
+ *   branch and the water gone over the edge adds itself up;
+ * - rule 6 in 64 bits: with K = 100,000(100 - c) and b = a + K, a^2 / b = b - 2K + K^2 / b;
+ * - one pass over the cells in flow order does all the rules and sums the totals.
+ */
+#include "balance.h"
+
+#include <assert.h>
+#include <stdbool.h>
+#include <string.h>
+
+#include "retention.h"
+
+enum {
+    CELLS = BALANCE_MAX_CELLS,
+
+    /* Numbers past the last cell, for water that goes to no cell. */
+    OVER_EDGE = CELLS,
+    CLOSED,
+    OPEN_WATER,
+    TARGETS,
+
+    PLOTS = 4 * BALANCE_MAX_COVERS, /* a plot is a cover with a group: 4 x entry + group - 1 */
+
+    MAX_GROSS = 400000,
+    MAX_SNOW = 10000000,
+    MAX_SERIAL = 9999999
+};
+
+/* The fields of a cover entry. */
+enum { CODE = 0, WATER = 1, CURVE = 2, RECHARGE = 6, GROWING = 10, DORMANT = 11, ROOTS = 12 };
+
+#define REFUSE(number, place) ((uint64_t)(number) << 32 | (uint64_t)(place))
+
+/* What the tests of the setup leave behind for the day. */
+struct routes {
+    uint8_t plot[CELLS];   /* which plot a cell is */
+    uint16_t next[CELLS];  /* where its water goes: a cell, or one of the numbers above */
+    uint16_t order[CELLS]; /* the cells, upslope first */
+};
+
+/* ---------------------------------------------------------------- tests of the setup */
+
+/* Test 3, and the index: 1 + entry for each code of the table, 0 for the others. */
+static uint64_t index_covers(const uint32_t *covers, size_t covers_len, uint8_t index[256])
+{
+    const size_t entries = covers_len / BALANCE_ENTRY;
+    uint32_t before = 0;
+
+    if (covers_len % BALANCE_ENTRY != 0 || entries - 1 >= BALANCE_MAX_COVERS)
+        return REFUSE(3, 0);
+    memset(index, 0, 256);
+    for (size_t i = 0; i < entries; i++) {
+        const uint32_t *e = covers + i * BALANCE_ENTRY;
+        bool bad = e[CODE] <= before || e[CODE] > 255 || e[WATER] > 1 ||
+                   e[GROWING] > 10000 || e[DORMANT] > 10000;
+        for (int g = 0; g < 4; g++) /* x - 30 wraps below 30 */
+            bad |= e[CURVE + g] - 30 > 70 || e[RECHARGE + g] > 100000 || e[ROOTS + g] > 1000;
+        if (bad)
+            return REFUSE(3, i);
+        before = e[CODE];
+        index[before] = (uint8_t)(i + 1);
+    }
+    return 0;
+}
+
+/* Test 4, with each cell's plot, next cell and count of cells pointing to it. */
+static uint64_t read_cells(uint32_t width, uint32_t height, const uint32_t *covers,
+                           const uint8_t index[256], const uint32_t *direction,
+                           const uint32_t *cover, const uint32_t *group, const uint32_t *water,
+                           struct routes *r, uint16_t *waiting)
+{
+    /* By the direction's bit: right, lower right, down, ... Unsigned, so they wrap back. */
+    const uint32_t step[8] = {1, width + 1, width, width - 1, 0u - 1, 0u - width - 1,
+                              0u - width, 1 - width};
+    uint32_t cell = 0;
+
+    for (uint32_t row = 0; row < height; row++) {
+        const uint32_t row_edge = (row == 0 ? 32u | 64 | 128 : 0) |
+                                  (row == height - 1 ? 2u | 4 | 8 : 0);
+        for (uint32_t column = 0; column < width; column++, cell++) {
+            const uint32_t code = cover[cell];
+            const uint32_t entry = code > 255 ? 0 : index[code];
+            const uint32_t g = group[cell] - 1;
+            if (entry == 0 || g > 3 || water[cell] > 600)
+                return REFUSE(4, cell);
+            r->plot[cell] = (uint8_t)(4 * (entry - 1) + g);
+
+            const uint32_t d = direction[cell];
+            uint32_t next;
+            if (covers[(entry - 1) * BALANCE_ENTRY + WATER] != 0) {
+                next = OPEN_WATER;
+            } else if (d == 0 || d > 128 || (d & (d - 1)) != 0) {
+                next = CLOSED;
+            } else {
+                const uint32_t edge = row_edge | (column == 0 ? 8u | 16 | 32 : 0) |
+                                      (column == width - 1 ? 1u | 2 | 128 : 0);
+                next = (d & edge) != 0 ? OVER_EDGE : cell + step[__builtin_ctz(d)];
+            }
+            r->next[cell] = (uint16_t)next;
+            waiting[next]++;
+        }
+    }
+    return 0;
+}
+
+/* Test 5 and the order. Each cell waits for those pointing to it; one that waits for none is
+ * taken, and its chain followed down while the next cell waits for no other. Only cells on
+ * rings stay. */
+static uint64_t order_cells(uint32_t cells, struct routes *r, uint16_t *waiting)
+{
+    const uint16_t taken = UINT16_MAX;
+    uint32_t count = 0;
+
+    for (int target = OVER_EDGE; target < TARGETS; target++)
+        waiting[target]++; /* no cell: must never be taken */
+    for (uint32_t start = 0; start < cells; start++) {
+        uint32_t cell = start;
+        while (waiting[cell] == 0) {
+            waiting[cell] = taken;
+            r->order[count++] = (uint16_t)cell;
+            cell = r->next[cell];
+            waiting[cell]--;
+        }
+    }
+    if (count == cells)
+        return 0;
+    uint32_t lowest = 0;
+    while (waiting[lowest] == taken)
+        lowest++;
+    return REFUSE(5, lowest);
+}
+
+/* Tests 3 to 6. */
+static uint64_t check_setup(uint32_t width, uint32_t height, uint32_t first, uint32_t last,
+                            const uint32_t *covers, size_t covers_len,
+                            const uint32_t *direction, const uint32_t *cover,
+                            const uint32_t *group, const uint32_t *water, struct routes *r)
+{
+    uint8_t index[256];
+    uint16_t waiting[TARGETS];
+    const uint32_t cells = width * height;
+    uint64_t no;
+
+    if ((no = index_covers(covers, covers_len, index)) != 0)
+        return no;
+    memset(waiting, 0, cells * sizeof waiting[0]);
+    memset(waiting + OVER_EDGE, 0, (TARGETS - OVER_EDGE) * sizeof waiting[0]);
+    no = read_cells(width, height, covers, index, direction, cover, group, water, r, waiting);
+    if (no != 0)
+        return no;
+    if ((no = order_cells(cells, r, waiting)) != 0)
+        return no;
+    return first == 0 || first > last || last > 366 ? REFUSE(6, 0) : 0;
+}
+
+/* Test 1. */
+static bool bad_size(uint32_t width, uint32_t height)
+{
+    return width - 1 >= CELLS || height - 1 >= CELLS || width * height > CELLS;
+}
+
+uint64_t fast_check(BALANCE_SETUP_PARAMETERS)
+{
+    struct routes r;
+
+    if (bad_size(width, height))
+        return REFUSE(1, 0);
+    const size_t cells = width * height;
+    if (direction_len != cells || cover_len != cells || group_len != cells || water_len != cells)
+        return REFUSE(2, 0);
+    return check_setup(width, height, first, last, covers, covers_len, direction, cover, group,
+                       water, &r);
+}
+
+uint64_t fast_fresh(BALANCE_SETUP_PARAMETERS, BALANCE_STATE_PARAMETERS)
+{
+    struct routes r;
+
+    assert(memory_len == BALANCE_MEMORY && last_serial_len == 1);
+    memset(memory, 0, BALANCE_MEMORY * sizeof memory[0]);
+    last_serial[0] = BALANCE_NO_SERIAL;
+
+    if (bad_size(width, height))
+        return REFUSE(1, 0);
+    const size_t cells = width * height;
+    if (direction_len != cells || cover_len != cells || group_len != cells ||
+        water_len != cells || soil_len != cells || snow_len != cells)
+        return REFUSE(2, 0);
+    const uint64_t no = check_setup(width, height, first, last, covers, covers_len, direction,
+                                    cover, group, water, &r);
+    if (no != 0)
+        return no;
+
+    for (size_t i = 0; i < cells; i++) {
+        const uint32_t *e = covers + r.plot[i] / 4 * BALANCE_ENTRY;
+        soil[i] = e[WATER] != 0 ? 0 : water[i] * e[ROOTS + r.plot[i] % 4];
+    }
+    memset(snow, 0, cells * sizeof snow[0]);
+    return 0;
+}
+
+/* ---------------------------------------------------------------- the day */
+
+/* All that cells of one cover and group share on a day. Open water has zeros here, so that
+ * it passes tests 9 and 10 exactly when its stores are 0. */
+struct plot {
+    uint32_t intercepted, rain, snowfall;
+    uint32_t root, most_snow; /* limits of the stores: root x available water, and this */
+    uint32_t largest;         /* daily recharge */
+    uint32_t c;               /* curve number */
+    uint32_t none_to;         /* no outflow up to this w: a > 0 exactly when w is above it */
+    uint32_t b0;              /* b = c w + b0 */
+    uint32_t k;               /* K = 100,000(100 - c) */
+    uint64_t kk;              /* K squared */
+};
+
+/* Rule 5. */
+static uint32_t curve_number(uint32_t n, int condition)
+{
+    if (condition == 1) {
+        const uint32_t under = 228100 - 1281 * n;
+        return (200000 * n + under) / (2 * under);
+    }
+    if (condition == 3) {
+        const uint32_t under = 42700 + 573 * n;
+        return (200000 * n + under) / (2 * under);
+    }
+    return n;
+}
+
+static void plan_plots(const uint32_t *covers, size_t covers_len, bool growing, int condition,
+                       bool snows, uint32_t gross, struct plot *plot)
+{
+    for (const uint32_t *e = covers; e != covers + covers_len; e += BALANCE_ENTRY, plot += 4) {
+        if (e[WATER] != 0) {
+            memset(plot, 0, 4 * sizeof *plot);
+            continue;
+        }
+        const uint32_t figure = growing ? e[GROWING] : e[DORMANT];
+        const uint32_t intercepted = gross < figure ? gross : figure;
+        const uint32_t net = gross - intercepted;
+        for (int g = 0; g < 4; g++) {
+            const uint32_t c = curve_number(e[CURVE + g], condition);
+            const uint32_t k = 100000 * (100 - c);
+            plot[g] = (struct plot){
+                .intercepted = intercepted,
+                .rain = snows ? 0 : net,
+                .snowfall = snows ? net : 0,
+                .root = e[ROOTS + g],
+                .most_snow = MAX_SNOW,
+                .largest = e[RECHARGE + g],
+                .c = c,
+                .none_to = 2000000 / c - 20000,
+                .b0 = 80000 * (100 - c),
+                .k = k,
+                .kk = (uint64_t)k * k,
+            };
+        }
+    }
+}
+
+/* Rule 6. */
+static inline uint32_t runoff(const struct plot *p, uint32_t w)
+{
+    if (w <= p->none_to)
+        return 0;
+    const uint64_t b = (uint64_t)p->c * w + p->b0;
+    return (uint32_t)((b + p->kk / b - 2 * (uint64_t)p->k) / p->c);
+}
+
+/* Rule 8. soil x L stays below 600,000^2 x 2^20 < 2^60. */
+static inline uint32_t loss_of(uint32_t soil, uint32_t capacity, uint32_t d)
+{
+    const uint64_t one = 1u << 20;
+
+    if (soil == 0)
+        return 0; /* also where the capacity is 0 */
+    const uint32_t k = 256 * d / capacity;
+    uint64_t l;
+    if (k < 2048) {
+        const uint32_t f = 256 * d - k * capacity;
+        l = (one - retention[k]) * capacity + (uint64_t)(retention[k] - retention[k + 1]) * f;
+    } else {
+        l = (one - retention[2048]) * capacity;
+    }
+    return (uint32_t)(soil * l / (one * capacity));
+}
+
+/* Test 7. */
+static bool bad_day(BALANCE_DAY_PARAMETERS)
+{
+    return serial > MAX_SERIAL || day_of_year - 1 > 365 || gross > MAX_GROSS ||
+           minimum < -1000 || minimum > mean || mean > maximum || maximum > 1500 ||
+           potential > 20000;
+}
+
+uint64_t fast_day(BALANCE_SETUP_PARAMETERS, BALANCE_STATE_PARAMETERS,
+                  BALANCE_RESULT_PARAMETERS, BALANCE_DAY_PARAMETERS)
+{
+    struct routes r;
+    struct plot plots[PLOTS];
+    uint32_t capacity[CELLS], inflow[TARGETS];
+
+    assert(memory_len == BALANCE_MEMORY && last_serial_len == 1);
+    assert(totals_len == BALANCE_TOTALS);
+    memset(totals, 0, BALANCE_TOTALS * sizeof totals[0]);
+
+    if (bad_size(width, height))
+        return REFUSE(1, 0);
+    const uint32_t cells = width * height;
+    if (direction_len != cells || cover_len != cells || group_len != cells ||
+        water_len != cells || soil_len != cells || snow_len != cells ||
+        intercepted_len != cells || outflow_len != cells || evapotranspired_len != cells ||
+        recharged_len != cells || rejected_len != cells)
+        return REFUSE(2, 0);
+    const uint64_t no = check_setup(width, height, first, last, covers, covers_len, direction,
+                                    cover, group, water, &r);
+    if (no != 0)
+        return no;
+    if (bad_day(serial, day_of_year, gross, minimum, mean, maximum, potential))
+        return REFUSE(7, 0);
+    /* No serial that passed test 7 is 0 after a last serial of 2^32 - 1: that is none. */
+    if (last_serial[0] != BALANCE_NO_SERIAL && serial != last_serial[0] + 1)
+        return REFUSE(8, 0);
+
+    const bool growing = first <= day_of_year && day_of_year <= last;
+    const bool snows = 3 * mean - (maximum - minimum) <= 960;
+    const uint32_t most_melt = maximum > 320 ? 295 * (uint32_t)(maximum - 320) / 9 : 0;
+    uint64_t sum = 0;
+    bool bad_memory = false;
+    for (int i = 0; i < BALANCE_MEMORY; i++) {
+        sum += memory[i];
+        bad_memory |= memory[i] > MAX_GROSS;
+    }
+    const int condition = sum < (growing ? 14000 : 5000)    ? 1
+                          : sum > (growing ? 21000 : 11000) ? 3
+                                                            : 2;
+    plan_plots(covers, covers_len, growing, condition, snows, gross, plots);
+
+    /* Tests 9 and 10, before anything is written. Any 9 wins over a 10. The last serial has
+     * passed with the serial. */
+    uint32_t buried = cells; /* the lowest cell of test 10 */
+    for (uint32_t i = 0; i < cells; i++) {
+        const struct plot *p = &plots[r.plot[i]];
+        capacity[i] = water[i] * p->root;
+        if (soil[i] > capacity[i] || snow[i] > p->most_snow)
+            return REFUSE(9, i);
+        if (snow[i] + p->snowfall > MAX_SNOW && buried == cells)
+            buried = i;
+    }
+    if (bad_memory)
+        return REFUSE(9, cells);
+    if (buried != cells)
+        return REFUSE(10, buried);
+
+    /* Rules 1 to 8. The water of a whole grid, at most 4,096 x (400,000 + 38,677), fits 32
+     * bits, so every inflow does. */
+    uint64_t all_intercepted = 0, all_evapotranspired = 0, all_recharged = 0, all_rejected = 0;
+    uint64_t gone = 0, stored = 0;
+    memset(inflow, 0, cells * sizeof inflow[0]);
+    memset(inflow + OVER_EDGE, 0, (TARGETS - OVER_EDGE) * sizeof inflow[0]);
+    for (uint32_t i = 0; i < cells; i++) {
+        const uint32_t cell = r.order[i];
+        const uint32_t next = r.next[cell];
+
+        if (next == OPEN_WATER) {
+            const uint32_t out = gross + inflow[cell];
+            gone += out;
+            intercepted[cell] = 0;
+            outflow[cell] = out;
+            evapotranspired[cell] = 0;
+            recharged[cell] = 0;
+            rejected[cell] = 0;
+            continue;
+        }
+
+        const struct plot *p = &plots[r.plot[cell]];
+        const uint32_t store = snow[cell] + p->snowfall;
+        const uint32_t melt = store < most_melt ? store : most_melt;
+        const uint32_t w = p->rain + melt + inflow[cell];
+        const uint32_t out = next == CLOSED ? 0 : runoff(p, w);
+        const uint32_t n = w - out;
+        uint32_t kept = soil[cell], evaporated, recharge = 0, reject = 0;
+        inflow[next] += out;
+
+        if (n >= potential) {
+            evaporated = potential;
+            kept += n - potential;
+            if (kept > capacity[cell]) {
+                const uint32_t excess = kept - capacity[cell];
+                recharge = excess < p->largest ? excess : p->largest;
+                reject = excess - recharge;
+                kept = capacity[cell];
+            }
+        } else {
+            const uint32_t loss = loss_of(kept, capacity[cell], potential - n);
+            evaporated = n + loss;
+            kept -= loss;
+        }
+
+        soil[cell] = kept;
+        snow[cell] = store - melt;
+        intercepted[cell] = p->intercepted;
+        outflow[cell] = out;
+        evapotranspired[cell] = evaporated;
+        recharged[cell] = recharge;
+        rejected[cell] = reject;
+        all_intercepted += p->intercepted;
+        all_evapotranspired += evaporated;
+        all_recharged += recharge;
+        all_rejected += reject;
+        stored += (uint64_t)kept + (store - melt);
+    }
+
+    totals[0] = (uint64_t)cells * gross;
+    totals[1] = all_intercepted;
+    totals[2] = all_evapotranspired;
+    totals[3] = all_recharged;
+    totals[4] = all_rejected;
+    totals[5] = gone + inflow[OVER_EDGE];
+    totals[6] = stored;
+    memmove(memory, memory + 1, (BALANCE_MEMORY - 1) * sizeof memory[0]);
+    memory[BALANCE_MEMORY - 1] = gross;
+    last_serial[0] = serial;
+    return 0;
+}

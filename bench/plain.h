@@ -1,0 +1,21 @@
+/* The single rules of plain.c, for programs that check figures against them.
+ * All of them expect arguments within the paper's limits. */
+#ifndef PLAIN_H
+#define PLAIN_H
+
+#include <stdbool.h>
+#include <stdint.h>
+
+enum plain_condition { CONDITION_I, CONDITION_II, CONDITION_III };
+
+int64_t plain_capacity(int64_t available_water, int64_t root_depth);
+int64_t plain_interception(int64_t gross, int64_t figure);                        /* rule 2 */
+bool plain_falls_as_snow(int64_t minimum, int64_t mean, int64_t maximum);         /* rule 3 */
+int64_t plain_melt(int64_t store, int64_t maximum);                               /* rule 3 */
+enum plain_condition plain_antecedent(int64_t five_day_sum, bool growing);        /* rule 5 */
+int64_t plain_curve_number(int64_t table_number, enum plain_condition condition); /* rule 5 */
+int64_t plain_outflow(int64_t c, int64_t w);                                      /* rule 6 */
+int64_t plain_retention(int64_t k);                                               /* F of rule 8 */
+int64_t plain_loss(int64_t soil, int64_t capacity, int64_t d);                    /* rule 8 */
+
+#endif

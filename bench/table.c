@@ -1,0 +1,38 @@
+/* To compare a third implementation, say one with the prefix proved_, compile this file with
+ * -DTHIRD=proved and link proved_check, proved_fresh and proved_day in; for a third text
+ * function proved_text, with -DTHIRD_TEXT=proved. (Or add an entry by hand.) */
+#include "table.h"
+
+#define ENTRY_(prefix) {#prefix, prefix##_check, prefix##_fresh, prefix##_day}
+#define ENTRY(prefix) ENTRY_(prefix)
+#define TEXT_ENTRY_(prefix) {#prefix, prefix##_text}
+#define TEXT_ENTRY(prefix) TEXT_ENTRY_(prefix)
+#define JOIN_(a, b) a##b
+#define JOIN(a, b) JOIN_(a, b)
+
+#ifdef THIRD
+balance_check JOIN(THIRD, _check);
+balance_fresh JOIN(THIRD, _fresh);
+balance_day JOIN(THIRD, _day);
+#endif
+#ifdef THIRD_TEXT
+balance_text JOIN(THIRD_TEXT, _text);
+#endif
+
+const struct implementation implementations[] = {
+    ENTRY(plain),
+    ENTRY(fast),
+#ifdef THIRD
+    ENTRY(THIRD),
+#endif
+};
+const size_t implementations_count = sizeof implementations / sizeof implementations[0];
+
+const struct text_implementation texts[] = {
+    TEXT_ENTRY(plain),
+    TEXT_ENTRY(fast),
+#ifdef THIRD_TEXT
+    TEXT_ENTRY(THIRD_TEXT),
+#endif
+};
+const size_t texts_count = sizeof texts / sizeof texts[0];

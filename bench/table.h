@@ -1,0 +1,26 @@
+/* The implementations that are compared: one table for the library, one for the text. */
+#ifndef TABLE_H
+#define TABLE_H
+
+#include "balance.h"
+#include "text.h"
+
+struct implementation {
+    const char *name;
+    balance_check *check;
+    balance_fresh *fresh;
+    balance_day *day;
+};
+
+struct text_implementation {
+    const char *name;
+    balance_text *run;
+};
+
+/* The first of each is the one that the others are compared with. */
+extern const struct implementation implementations[];
+extern const size_t implementations_count;
+extern const struct text_implementation texts[];
+extern const size_t texts_count;
+
+#endif
