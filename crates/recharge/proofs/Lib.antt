@@ -1,6 +1,7 @@
 pub mod CallLaws
 pub mod CellLaws
 pub mod CoverLaws
+pub mod DayTestLaws
 pub mod DirectionLaws
 pub mod LimitLaws
 pub mod LossRoom

@@ -81,3 +81,17 @@ refusedAs (refusals.snowfall i) = outcomes.SnowTooDeep i
 abbrev pub outcomeIn : refusals.Verdict → Outcome
 outcomeIn refusals.accepted = outcomes.Accepted
 outcomeIn (refusals.refused why) = refusedAs why
+
+-- the code's outcome as the paper's verdict
+abbrev pub verdictAs : Outcome → refusals.Verdict
+verdictAs outcomes.Accepted = refusals.accepted
+verdictAs outcomes.GridSize = refusals.refused refusals.grid
+verdictAs outcomes.LentSize = refusals.refused refusals.lent
+verdictAs (outcomes.CoverTable e) = refusals.refused (refusals.coverTable e)
+verdictAs (outcomes.CellNumbers i) = refusals.refused (refusals.cellNumbers i)
+verdictAs (outcomes.RingAt i) = refusals.refused (refusals.ring i)
+verdictAs outcomes.SeasonOutside = refusals.refused refusals.season
+verdictAs outcomes.DayOutside = refusals.refused refusals.dayRecord
+verdictAs outcomes.SerialGap = refusals.refused refusals.serialGap
+verdictAs (outcomes.StateOutside i) = refusals.refused (refusals.stateAt i)
+verdictAs (outcomes.SnowTooDeep i) = refusals.refused (refusals.snowfall i)
