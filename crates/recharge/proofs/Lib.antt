@@ -5,6 +5,7 @@ pub mod DayTestLaws
 pub mod DirectionLaws
 pub mod LimitLaws
 pub mod LossRoom
+pub mod MapLaws
 pub mod OrderLaws
 pub mod PlaceLaws
 pub mod QueueLaws

@@ -1,0 +1,63 @@
+-- A setup that the survey passed: its arrays hold cells that the cover table has, and the cell that the code finds by them is the paper's.
+use mathlib.Core.Path.{_≡_, refl, sym, ap, _∙_, subst}
+use mathlib.Core.Bool.{true}
+use mathlib.Core.List.{List, [], _++_, append-nil}
+use Prim.Native.Nat.{ℕ, _≤_, _<_}
+use native.Mathlib.Omega.{arith}
+use lib.ListN.{length, getD, replicate, length-replicate}
+use borrow.Author.Tests.{leb-true}
+use Rattle.theory.specs.Lists.{madeOver}
+use Rattle.theory.proofs.Cases.{and-left, and-right}
+use Rattle.theory.proofs.ListLaws.{over-length}
+use Rattle.paper.specs.Setup.{Setup, Cell, cell, cells, gridFits, cellFits, next}
+use Rattle.paper.specs.Refusals.{Refusal, grid, lent, coverTable, cellNumbers, ring, season, dayRecord, serialGap, stateAt, snowfall, Verdict, accepted, refused, verdict, oneEach, setupTests, mapTests}
+use Rattle.paper.proofs.SetupLaws.{Charted, Sound, sound}
+use Rattle.recharge.specs.Calls.{outcomeIn, verdictAs}
+use Rattle.recharge.specs.Cells.{slotOf, cellFrom, cellIn, SlotsFit}
+use Rattle.recharge.specs.Survey.{Mapped}
+use Rattle.recharge.specs.declared.answers.Outcome.the-variants.{Accepted}
+use Rattle.recharge.proofs.CallLaws.{on-the-map}
+use Rattle.recharge.proofs.CellLaws.{slot-limit, cell-is}
+use Rattle.recharge.proofs.WayArrays.{over-at}
+
+-- the code's outcome and the paper's verdict say the same
+pub verdict-back : (v : Verdict) → verdictAs (outcomeIn v) ≡ v
+verdict-back accepted = refl
+verdict-back (refused grid) = refl
+verdict-back (refused lent) = refl
+verdict-back (refused (coverTable e)) = refl
+verdict-back (refused (cellNumbers i)) = refl
+verdict-back (refused (ring i)) = refl
+verdict-back (refused season) = refl
+verdict-back (refused dayRecord) = refl
+verdict-back (refused serialGap) = refl
+verdict-back (refused (stateAt i)) = refl
+verdict-back (refused (snowfall i)) = refl
+
+pub accepted-back : (v : Verdict) → Accepted ≡ outcomeIn v → v ≡ accepted
+accepted-back v e = sym (verdict-back v) ∙ ap verdictAs (sym e)
+
+pub sound-setup : (s : Setup) (lengths : List ℕ) → gridFits s ≡ true → oneEach (cells s) lengths ≡ true
+  → verdict (mapTests s) ≡ accepted → Sound s lengths
+sound-setup s lengths g e v = sound s lengths [] (rw append-nil (on-the-map s lengths g e ∙ v))
+
+module _ (s : Setup) (slots ways order : List ℕ) (ok : Charted s) (m : Mapped s slots ways order) (each : length (s .water) ≡ cells s) where
+  pub slot-at : (i : ℕ) → i < cells s → getD slots i 0 ≡ slotOf s i
+  slot-at i h = rw (m .slots-are) (over-at (cells s) (slotOf s) (replicate 4096 0) 0 i h)
+
+  pub way-at : (i : ℕ) → i < cells s → getD ways i 4097 ≡ next s i
+  way-at i h = rw (m .ways-are) (over-at (cells s) (next s) (replicate 4096 4097) 4097 i h)
+
+  pub slots-fit : SlotsFit (s .covers) (cells s) slots (s .water)
+  unfolding cellFits
+  slots-fit =
+      record {
+        table = record { sized = ok .sized; fit = ok .entered };
+        few = ok .few;
+        sized = ap length (m .slots-are) ∙ over-length (cells s) (slotOf s) (replicate 4096 0) (ok .few);
+        slotted = λ i h. rw (slot-at i h) (slot-limit s ok i h);
+        each = each;
+        watered = λ i h. leb-true _ _ (let fits : cellFits s i ≡ true = ok .celled i h in search (and-left, and-right)) }
+
+  pub cell-in : (i : ℕ) → i < cells s → cellIn (s .covers) slots (s .water) ways i ≡ cell s i
+  cell-in i h = rw (slot-at i h, way-at i h) (sym (cell-is s ok i h))
