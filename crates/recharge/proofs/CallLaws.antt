@@ -1,13 +1,13 @@
 -- The calls' first two tests, and what they leave the survey: a grid within its limits, with one entry a cell in every lent slice.
-use mathlib.Core.Path.{_≡_, refl, sym, ap, _∙_}
+use mathlib.Core.Path.{_≡_, refl, _∙_}
 use mathlib.Core.Bool.{true, false}
-use mathlib.Core.List.{List, [], _∷_, _++_}
+use mathlib.Core.List.{List, _++_}
 use Prim.Native.Nat.{ℕ, _≤_}
-use lib.ListN.{length, replicate}
+use lib.ListN.{replicate}
 use borrow.Author.Tests.{leb-true, eqb-true}
 use Rattle.theory.proofs.Cases.{and-left, and-right}
 use Rattle.paper.specs.Setup.{Setup, cells, gridFits}
-use Rattle.paper.specs.Refusals.{Refusal, grid, lent, Test, verdict, refused, single, oneEach, setupLengths, setupTests, mapTests}
+use Rattle.paper.specs.Refusals.{grid, lent, verdict, refused, oneEach, setupLengths, setupTests, mapTests}
 use Rattle.paper.proofs.RefusalLaws.{pass-single, fail-single}
 use Rattle.recharge.specs.Survey.{Surveyable}
 
@@ -31,7 +31,7 @@ module _ (s : Setup) where
 
   -- the four slices of the setup come first
   pub surveyable : (more : List ℕ) → gridFits s ≡ true → oneEach (cells s) (setupLengths s ++ more) ≡ true
-    → Surveyable s (replicate 4096 0) (replicate 4096 4097) (replicate 4096 0)
+      → Surveyable s (replicate 4096 0) (replicate 4096 4097) (replicate 4096 0)
   unfolding gridFits setupLengths oneEach
   surveyable more g e =
       record {
@@ -44,4 +44,5 @@ module _ (s : Setup) where
         waters = eqb-true _ _ (search (and-left, and-right));
         no-slots = refl;
         no-ways = refl;
-        no-order = refl }
+        no-order = refl;
+      }

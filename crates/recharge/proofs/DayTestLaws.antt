@@ -1,9 +1,9 @@
 -- Tests 7 to 10 one after another: where each fails, the verdict is its refusal. The state's test looks at every cell's stores, and then, at the cell
 -- count, at the memory and the last serial.
-use mathlib.Core.Path.{_≡_, refl, sym, ap, _∙_}
-use mathlib.Core.Bool.{Bool, true, false, cond, not, _&&_}
-use mathlib.Core.List.{List, [], _∷_}
-use Prim.Native.Nat.{ℕ, suc, _<_}
+use mathlib.Core.Path.{_≡_, refl, ap, _∙_}
+use mathlib.Core.Bool.{Bool, true, false, not, _&&_}
+use mathlib.Core.List.{[], _∷_}
+use Prim.Native.Nat.{ℕ, suc}
 use native.Mathlib.Nat.{le-refl}
 use lib.Dec.{ltb}
 use borrow.Author.Tests.{lt-ltb, le-ltb}
@@ -13,8 +13,7 @@ use Rattle.theory.proofs.LowestLaws.{lowest-cong}
 use Rattle.paper.specs.Setup.{Setup, cell, cells}
 use Rattle.paper.specs.State.{State, Day, dayFits, follows, storesFit, memoryFits, lastFits, snowAt}
 use Rattle.paper.specs.CellDay.{today}
-use Rattle.paper.specs.Refusals.{
-  Refusal, dayRecord, serialGap, stateAt, snowfall, Verdict, accepted, refused, Test, verdict, single, stateFits, tooDeep, dayTests }
+use Rattle.paper.specs.Refusals.{dayRecord, serialGap, stateAt, snowfall, accepted, refused, Test, verdict, stateFits, tooDeep, dayTests}
 use Rattle.paper.proofs.RefusalLaws.{pass-single, fail-single, pass-many, fail-many}
 
 module _ (s : Setup) (st : State) (d : Day) where
@@ -26,11 +25,12 @@ module _ (s : Setup) (st : State) (d : Day) where
       record {
         places = cells s;
         fails = λ i. tooDeep (cell s i) (today s (st .memory) d) (snowAt st i);
-        called = snowfall }
+        called = snowfall;
+      }
 
   -- the cells first, then the memory and the last serial
   state-search : lowest (suc (cells s)) (λ i. not (stateFits s st i))
-    ≡ orAt (lowest (cells s) (λ i. not (storesFit s st i))) (cells s) (not (memoryFits (st .memory) && lastFits (st .last)))
+      ≡ orAt (lowest (cells s) (λ i. not (storesFit s st i))) (cells s) (not (memoryFits (st .memory) && lastFits (st .last)))
   unfolding lowest stateFits
   state-search =
       ap (λ (f : Found). orAt f (cells s) (not (stateFits s st (cells s))))

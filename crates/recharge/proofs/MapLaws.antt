@@ -1,19 +1,17 @@
 -- A setup that the survey passed: its arrays hold cells that the cover table has, and the cell that the code finds by them is the paper's.
-use mathlib.Core.Path.{_≡_, refl, sym, ap, _∙_, subst}
+use mathlib.Core.Path.{_≡_, refl, sym, ap, _∙_}
 use mathlib.Core.Bool.{true}
-use mathlib.Core.List.{List, [], _++_, append-nil}
-use Prim.Native.Nat.{ℕ, _≤_, _<_}
-use native.Mathlib.Omega.{arith}
-use lib.ListN.{length, getD, replicate, length-replicate}
+use mathlib.Core.List.{List, [], append-nil}
+use Prim.Native.Nat.{ℕ, _<_}
+use lib.ListN.{length, getD, replicate}
 use borrow.Author.Tests.{leb-true}
-use Rattle.theory.specs.Lists.{madeOver}
 use Rattle.theory.proofs.Cases.{and-left, and-right}
 use Rattle.theory.proofs.ListLaws.{over-length}
-use Rattle.paper.specs.Setup.{Setup, Cell, cell, cells, gridFits, cellFits, next}
-use Rattle.paper.specs.Refusals.{Refusal, grid, lent, coverTable, cellNumbers, ring, season, dayRecord, serialGap, stateAt, snowfall, Verdict, accepted, refused, verdict, oneEach, setupTests, mapTests}
+use Rattle.paper.specs.Setup.{Setup, cell, cells, gridFits, cellFits, next}
+use Rattle.paper.specs.Refusals.{grid, lent, coverTable, cellNumbers, ring, season, dayRecord, serialGap, stateAt, snowfall, Verdict, accepted, refused, verdict, oneEach, mapTests}
 use Rattle.paper.proofs.SetupLaws.{Charted, Sound, sound}
 use Rattle.recharge.specs.Calls.{outcomeIn, verdictAs}
-use Rattle.recharge.specs.Cells.{slotOf, cellFrom, cellIn, SlotsFit}
+use Rattle.recharge.specs.Cells.{slotOf, cellIn, SlotsFit}
 use Rattle.recharge.specs.Survey.{Mapped}
 use Rattle.recharge.specs.declared.answers.Outcome.the-variants.{Accepted}
 use Rattle.recharge.proofs.CallLaws.{on-the-map}
@@ -38,7 +36,7 @@ pub accepted-back : (v : Verdict) → Accepted ≡ outcomeIn v → v ≡ accepte
 accepted-back v e = sym (verdict-back v) ∙ ap verdictAs (sym e)
 
 pub sound-setup : (s : Setup) (lengths : List ℕ) → gridFits s ≡ true → oneEach (cells s) lengths ≡ true
-  → verdict (mapTests s) ≡ accepted → Sound s lengths
+    → verdict (mapTests s) ≡ accepted → Sound s lengths
 sound-setup s lengths g e v = sound s lengths [] (rw append-nil (on-the-map s lengths g e ∙ v))
 
 module _ (s : Setup) (slots ways order : List ℕ) (ok : Charted s) (m : Mapped s slots ways order) (each : length (s .water) ≡ cells s) where
@@ -57,7 +55,8 @@ module _ (s : Setup) (slots ways order : List ℕ) (ok : Charted s) (m : Mapped 
         sized = ap length (m .slots-are) ∙ over-length (cells s) (slotOf s) (replicate 4096 0) (ok .few);
         slotted = λ i h. rw (slot-at i h) (slot-limit s ok i h);
         each = each;
-        watered = λ i h. leb-true _ _ (let fits : cellFits s i ≡ true = ok .celled i h in search (and-left, and-right)) }
+        watered = λ i h. leb-true _ _ (let fits : cellFits s i ≡ true = ok .celled i h in search (and-left, and-right));
+      }
 
   pub cell-in : (i : ℕ) → i < cells s → cellIn (s .covers) slots (s .water) ways i ≡ cell s i
   cell-in i h = rw (slot-at i h, way-at i h) (sym (cell-is s ok i h))

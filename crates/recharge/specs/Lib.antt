@@ -9,3 +9,8 @@ pub mod Slots
 pub mod Routes
 pub mod Peeling
 pub mod Survey
+pub mod Ground
+pub mod OwnWater
+pub mod RuleCodes
+pub mod CellDay
+pub mod Settle

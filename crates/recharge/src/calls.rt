@@ -6,10 +6,10 @@ ghost use Rattle.paper.specs.Day.{checkOf};
 ghost use Rattle.recharge.specs.Calls.{setupOf, gridOf, outcomeIn};
 use crate::answers::Outcome;
 use crate::answers::Setup;
+use crate::lent::place;
 use crate::limits::grid_fits;
 use crate::limits::setup_each;
 use crate::survey::survey;
-use crate::widening::place;
 
 // The number of cells of a grid within its limits.
 fn count(setup: Setup) -> usize
@@ -43,6 +43,14 @@ pub fn check(
     let mut way = [4097u32; 4096];
     let mut turn = [0u32; 4096];
     survey(
-        setup, covers, direction, cover, group, water, &mut slot, &mut way, &mut turn,
+        setup,
+        covers,
+        direction,
+        cover,
+        group,
+        water,
+        &mut slot,
+        &mut way,
+        &mut turn,
     )
 }

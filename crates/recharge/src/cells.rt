@@ -5,9 +5,9 @@ ghost use Rattle.theory.specs.Lists.{madeOver};
 ghost use lib.ListN.{length};
 ghost use Rattle.recharge.specs.Slots.{slotIn, slotAt, IndexFits, SlotsOrBad, wayFrom, wayAt, Layable};
 use crate::answers::Place;
+use crate::lent::place;
 use crate::ways::STAYS;
 use crate::ways::way;
-use crate::widening::place;
 
 // No slot: past those of 64 entries with four groups each.
 const NONE: u32 = 256;

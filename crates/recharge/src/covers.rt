@@ -7,7 +7,7 @@ ghost use Rattle.theory.specs.Lowest.{lowest};
 ghost use Rattle.paper.specs.Covers.{entries, sizeFits, rises as risesAt, groupFits, entryFits};
 ghost use Rattle.recharge.specs.Covers.{placeIn, EntriesFit, Indexed};
 use crate::answers::Place;
-use crate::widening::place;
+use crate::lent::place;
 
 pub fn size_fits(covers: &[u32]) -> bool
     ensures { λ r. ⌜ r ≡ sizeFits (now (covers .entry)) ⌝ }

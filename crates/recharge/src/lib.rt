@@ -1,23 +1,27 @@
 // The library: the office's rules as code. Each rule is one function, and its contract is one definition of the crate `paper`.
 mod answers;
 mod calls;
+mod cell_day;
 mod cells;
 mod covers;
 mod curve_numbers;
+mod ground;
 mod interception;
+mod lent;
 mod limits;
 mod loss;
 mod order;
 mod outflow;
+mod own_water;
 mod quantities;
 mod retention;
 mod routing;
+mod rule_codes;
 mod snow;
 mod soil;
 mod survey;
 mod today;
 mod ways;
-mod widening;
 
 pub use answers::Outcome;
 pub use answers::Setup;

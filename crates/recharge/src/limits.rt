@@ -134,6 +134,46 @@ fn not_above(low: TenthF, high: TenthF) -> bool
     low.0 <= high.0
 }
 
+pub(crate) fn day_fits(day: DayRecord) -> bool
+    ensures { λ r. ⌜ r ≡ dayFits (dayIn day) ⌝ }
+{
+    let serial = day.serial;
+    let date = day.day_of_year;
+    let gross = day.gross.0;
+    let minimum = day.minimum;
+    let mean = day.mean;
+    let maximum = day.maximum;
+    let potential = day.potential.0;
+    if 9999999 < serial {
+        return false;
+    }
+    if date < 1 {
+        return false;
+    }
+    if 366 < date {
+        return false;
+    }
+    if Depth::MOST_GROSS.0 < gross {
+        return false;
+    }
+    if !measured(minimum) {
+        return false;
+    }
+    if !measured(mean) {
+        return false;
+    }
+    if !measured(maximum) {
+        return false;
+    }
+    if !not_above(minimum, mean) {
+        return false;
+    }
+    if !not_above(mean, maximum) {
+        return false;
+    }
+    potential <= Depth::MOST_POTENTIAL.0
+}
+
 // One more than the last serial can pass 32 bits.
 pub(crate) fn follows(last: Last, serial: u32) -> bool
     ensures { λ r. ⌜ r ≡ followsOn (lastOf last) serial ⌝ }

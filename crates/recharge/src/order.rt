@@ -9,7 +9,7 @@ ghost use Rattle.recharge.specs.Routes.{nextIn, WaysIn, OrderOrRing};
 ghost use Rattle.recharge.specs.Covers.{placeIn};
 ghost use Rattle.recharge.specs.Peeling.{waits, Counted, Blank, GatheredIn, QueueIn};
 use crate::answers::Place;
-use crate::widening::place;
+use crate::lent::place;
 
 // One cell to wait for: past every number of a cell.
 const ONE: u32 = 8192;

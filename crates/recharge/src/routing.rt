@@ -1,8 +1,8 @@
 // Water along the order: each cell passes its outflow on to the cell that it points to before that one's turn comes.
+use crate::lent::place;
 use crate::outflow::outflow;
 use crate::quantities::CurveNumber;
 use crate::quantities::Depth;
-use crate::widening::place;
 ghost use mathlib.Core.Path.{_≡_};
 ghost use Prim.Native.Nat.{_≤_, _<_};
 ghost use Rattle.recharge.specs.Routes.{ruled, Routable, Routed};

@@ -1,7 +1,7 @@
 -- `limits::setup_each` meets its contract: each way out has the tests that led there, which decide the paper's.
 use borrow.Author.Tests.{eq-eqb, ne-eqb}
 use Rattle.paper.specs.Refusals.{oneEach}
-use Rattle.recharge.proofs.LimitLaws.{and-true}
+use mathlib.Core.Bool.{and-true}
 use Rattle.recharge.proofs.limits.setup_each.Statement.{statement}
 use Rattle.recharge.proofs.limits.setup_each.Tie as tie
 

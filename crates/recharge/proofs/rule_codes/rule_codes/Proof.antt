@@ -1,0 +1,136 @@
+use Rattle.recharge.proofs.rule_codes.rule_codes.Statement.{statement}
+use Rattle.recharge.proofs.rule_codes.rule_codes.Tie as tie
+use Rattle.recharge.proofs.rule_codes.rule_codes.Reads as reads
+use Rattle.recharge.proofs.rule_codes.rule_codes.Lts as lts
+use Rattle.recharge.proofs.ground.is_open.Reads as is-open-reads
+use Rattle.recharge.proofs.lent.place.Reads as place-reads
+use Rattle.recharge.proofs.rule_codes.rule_code.Reads as rule-code-reads
+use mathlib.Core.List.{List}
+use mathlib.Core.Path.{_≡_, sym, subst}
+use Prim.Native.Nat.{ℕ, _≤_, _-_}
+use native.Mathlib.Omega.{arith}
+use borrow.Author.Needs.{needs}
+use lib.ListN.{getD}
+use Rattle.theory.specs.Lists.{madeOver}
+use Rattle.theory.proofs.ListLaws.{over-none}
+use Rattle.paper.specs.CurveNumber.{Condition}
+use Rattle.recharge.specs.Cells.{cellIn}
+use Rattle.recharge.specs.RuleCodes.{ruleCode, Numbered}
+use Rattle.recharge.proofs.CoverLaws.{count-limit}
+use Rattle.recharge.proofs.RuleLaws.{code-found}
+use Rattle.recharge.proofs.LoopLaws.{wrote, any-default}
+
+abbrev Inv-loop : tie.InvT-loop
+Inv-loop covers slots ways numbers n rules₀ i₀ rules i =
+    (i ≤ n)
+    × (n ≤ 4096)
+    × ((condition : Condition) (water : List ℕ) → Numbered condition covers numbers → rules ≡ madeOver i (λ k. ruleCode condition (cellIn covers slots water ways k)) rules₀)
+
+abbrev μ-loop : tie.MeasureT-loop
+μ-loop covers slots ways numbers n rules₀ i₀ rules i = n - i
+
+-- src/rule_codes.rt:59:5
+loop-holds : tie.Need-loop-holds Inv-loop μ-loop
+loop-holds c = (search needs, c .before .pre .cells .few, λ condition water known. sym (over-none _ _))
+
+-- src/rule_codes.rt:60:26
+mul-place : tie.Need-mul-place Inv-loop μ-loop
+mul-place c = search needs
+
+-- src/rule_codes.rt:60:26
+element-copy-out-place : tie.Need-element-copy-out-place Inv-loop μ-loop
+element-copy-out-place c = search needs
+
+-- src/rule_codes.rt:60:13
+place-requires : tie.Need-place-requires Inv-loop μ-loop
+place-requires c κs = search needs
+
+-- src/rule_codes.rt:61:30
+is-open-requires : tie.Need-is-open-requires Inv-loop μ-loop
+is-open-requires c κs = let s = c .before .before .before .before .before in
+    rw (c .place .ensures) (s .pre .cells .slotted _ (c .before .before .loop-test .taken))
+
+-- src/rule_codes.rt:61:53
+mul-rule-code : tie.Need-mul-rule-code Inv-loop μ-loop
+mul-rule-code c = search needs
+
+-- src/rule_codes.rt:61:53
+element-copy-out-rule-code : tie.Need-element-copy-out-rule-code Inv-loop μ-loop
+element-copy-out-rule-code c = search needs
+
+-- src/rule_codes.rt:61:62
+mul-rule-code-2 : tie.Need-mul-rule-code-2 Inv-loop μ-loop
+mul-rule-code-2 c = let s = c .before .before .before .before .before .before .before in
+    omega (arith, c .before .before .place .ensures, s .pre .cells .slotted _ (c .before .before .before .before .loop-test .taken), count-limit _ (s .pre .cells .table))
+
+-- src/rule_codes.rt:61:62
+element-copy-out-rule-code-2 : tie.Need-element-copy-out-rule-code-2 Inv-loop μ-loop
+element-copy-out-rule-code-2 c = let s = c .before .before .before .before .before .before .before in
+    omega (arith, c .before .before .place .ensures, s .pre .cells .slotted _ (c .before .before .before .before .loop-test .taken), count-limit _ (s .pre .cells .table))
+
+-- src/rule_codes.rt:61:20
+rule-code-requires : tie.Need-rule-code-requires Inv-loop μ-loop
+rule-code-requires c κs = search needs
+
+-- src/rule_codes.rt:61:9
+mul-rules : tie.Need-mul-rules Inv-loop μ-loop
+mul-rules c = search needs
+
+-- src/rule_codes.rt:61:9
+element-write-rules : tie.Need-element-write-rules Inv-loop μ-loop
+element-write-rules c = search needs
+
+-- src/rule_codes.rt:62:9
+add-i : tie.Need-add-i Inv-loop μ-loop
+add-i c = search needs
+
+-- src/rule_codes.rt:59:5
+loop-less : tie.Need-loop-less Inv-loop μ-loop
+loop-less c = search needs
+
+-- src/rule_codes.rt:59:5
+loop-again : tie.Need-loop-again Inv-loop μ-loop
+loop-again c = let s = c .before .before .before .before .before .before .before .before .before in
+    let l = c .before .before .before .before .before .before .before .loop in
+    let h = c .before .before .before .before .before .before .loop-test .taken in
+    let a = s .args in (
+      search needs,
+      l .inv .1,
+      λ condition water known.
+          wrote (λ k. ruleCode condition (cellIn (a .covers .now) (a .slots .now) water (a .ways .now) k)) (a .rules .now) _ (l .i) _ (l .inv .2 condition water known)
+          (code-found condition (a .covers .now) (a .numbers .now) _ (getD (a .slots .now) (l .i) 0) (getD water (l .i) 0) _ (getD (a .ways .now) (l .i) 4097) _ _ known
+          (s .pre .cells .slotted _ h) (c .before .before .before .before .place .ensures) (c .before .before .before .is-open .ensures)
+          (any-default (a .ways .now) (l .i) 0 4097 (rw (s .pre .pointed) (omega arith))) (c .rule-code .ensures))
+          (rw (s .pre .sized) (omega arith)),
+    )
+
+-- src/rule_codes.rt:47:1
+returns : tie.Need-returns Inv-loop μ-loop
+returns c = λ condition water known.
+    let s = c .before .before .before in
+    let a = s .args in
+    let e : c .before .loop .i ≡ a .n = omega arith in
+    subst (λ (k : ℕ). c .before .loop .rules ≡ madeOver k (λ i. ruleCode condition (cellIn (a .covers .now) (a .slots .now) water (a .ways .now) i)) (a .rules .now)) e (c .before .loop .inv .2 condition water known)
+
+pub rule-codes-spec : {M : Type 1} → statement M
+rule-codes-spec =
+    tie.close
+    (tie.spec
+    Inv-loop
+    μ-loop
+    loop-holds
+    mul-place
+    element-copy-out-place
+    place-requires
+    is-open-requires
+    mul-rule-code
+    element-copy-out-rule-code
+    mul-rule-code-2
+    element-copy-out-rule-code-2
+    rule-code-requires
+    mul-rules
+    element-write-rules
+    add-i
+    loop-less
+    loop-again
+    returns)

@@ -1,0 +1,77 @@
+// Rules 1, 2, 3, 7 and 8 on one cell that water has reached: the figures of its day.
+ghost use mathlib.Core.Path.{_≡_};
+ghost use Rattle.paper.specs.Setup.{Cell};
+ghost use Rattle.paper.specs.CellDay.{passedOf};
+ghost use Rattle.recharge.specs.Calls.{todayOf};
+ghost use Rattle.recharge.specs.Cells.{figuresFrom};
+ghost use Rattle.recharge.specs.Ground.{Stands};
+ghost use Rattle.recharge.specs.CellDay.{figuresOf, CellReady};
+use crate::ground::Ground;
+use crate::own_water::bring;
+use crate::quantities::Depth;
+use crate::soil::soil_day;
+use crate::today::Today;
+
+pub(crate) struct Figures {
+    pub(crate) intercepted: Depth,
+    pub(crate) outflow: Depth,
+    pub(crate) evapotranspired: Depth,
+    pub(crate) recharged: Depth,
+    pub(crate) rejected: Depth,
+    pub(crate) soil: Depth,
+    pub(crate) snow: Depth,
+}
+
+// The routing has worked out what flows out, so it is not worked out again.
+pub(crate) fn cell_day(
+    f: &[u32; 2049],
+    today: Today,
+    ground: Ground,
+    soil: Depth,
+    snow: Depth,
+    reached: Depth,
+    outflow: Depth,
+) -> Figures
+    requires { ⌜ CellReady (todayOf today) (ground .capacity .0) (soil .0) (snow .0) (reached .0) (now f) ⌝ }
+    ensures { λ r. ⌜ ((c : Cell) → Stands c (today .growing) ground → outflow .0 ≡ passedOf c (todayOf today) (reached .0) → figuresOf r ≡ figuresFrom c (todayOf today) (soil .0) (snow .0) (reached .0)) ⌝ }
+{
+    if ground.open_water {
+        return Figures {
+            intercepted: Depth(0),
+            outflow,
+            evapotranspired: Depth(0),
+            recharged: Depth(0),
+            rejected: Depth(0),
+            soil: Depth(0),
+            snow: Depth(0),
+        };
+    }
+    let capacity = ground.capacity;
+    let largest = ground.largest;
+    let figure = ground.figure;
+    let potential = today.potential;
+    let brought = bring(today, figure, snow);
+    let below = soil_day(
+        f,
+        capacity,
+        largest,
+        soil,
+        reached.beyond(outflow),
+        potential,
+    );
+    let held = brought.intercepted;
+    let evapotranspired = below.evapotranspired;
+    let recharged = below.recharged;
+    let rejected = below.rejected;
+    let kept = below.soil;
+    let lying = brought.snow;
+    Figures {
+        intercepted: held,
+        outflow,
+        evapotranspired,
+        recharged,
+        rejected,
+        soil: kept,
+        snow: lying,
+    }
+}
