@@ -2,7 +2,7 @@
 -- pointing to i: along an order in which each cell stands after those that point to it, what reaches a cell is settled once its turn has
 -- come. It rises with the cells' own water, no cell's passes the sum of all own water (the cells up to a cell's turn hold, besides it,
 -- all that flows among them), and the inflows are the outflows that point inside.
-use mathlib.Core.Path.{_≡_, sym, ap, _∙_, subst}
+use mathlib.Core.Path.{_≡_, sym, ap, ap₂, _∙_, subst}
 use mathlib.Core.Bool.{Bool}
 use Prim.Native.Nat.{ℕ, zero, suc, _+_, _≤_, _<_, zero-le}
 use native.Mathlib.Nat.{not-suc-le-zero, le-of-suc-le-suc, lt-of-lt-of-le, le-refl, le-trans, add-le-add, add-zero, le-of-eq, le-of-lt}
@@ -133,3 +133,17 @@ module _ (n : ℕ) (next : ℕ → ℕ) (passed : ℕ → ℕ → ℕ) where
         = rw (← sum-pick n W i hi, ← sum-add n (λ c. given (inV c) (W c)) (λ c. given (eqb i c) (W c)))
         (sum-le n _ _ (λ c hc. beside c)) in
         omega (arith, arriving-in-U, sum-le n (λ c. given (inU c) (own c)) own (λ c hc. given-most (inU c) (own c)))
+
+-- the water goes by the cells' own water and outflows, cell by cell
+module _ (n : ℕ) (next : ℕ → ℕ) (passed by : ℕ → ℕ → ℕ) (own owned : ℕ → ℕ)
+    (same : (j w : ℕ) → j < n → passed j w ≡ by j w) (alike : (i : ℕ) → i < n → own i ≡ owned i) where
+  same-from : (k i : ℕ) → i < n → waterFrom n next passed own k i ≡ waterFrom n next by owned k i
+  unfolding waterFrom arriving
+  same-from zero i h = alike i h
+  same-from (suc k) i h =
+      ap₂ _+_ (alike i h)
+      (sum-cong n _ _ (λ j hj. ap (given (eqb (next j) i)) (same j _ hj ∙ ap (by j) (same-from k j hj))))
+
+  pub water-same : (i : ℕ) → i < n → water n next passed own i ≡ water n next by owned i
+  unfolding water
+  water-same = same-from n

@@ -15,8 +15,11 @@ pub mod QueueLaws
 pub mod RetentionTable
 pub mod RoutingLaws
 pub mod RuleLaws
+pub mod RunLaws
+pub mod SettleLaws
 pub mod SlotLaws
 pub mod SlotNumbers
+pub mod StoreLaws
 pub mod SumsAlong
 pub mod SurveyLaws
 pub mod Temperatures

@@ -2,9 +2,10 @@
 use mathlib.Core.Path.{_≡_, refl, ap, _∙_, sym}
 use mathlib.Core.Bool.{Bool, cond}
 use mathlib.Core.List.{List}
-use Prim.Native.Nat.{ℕ, _*_, _/_, _<_}
+use Prim.Native.Nat.{ℕ, _*_, _/_, _≤_, _<_, zero-le}
+use native.Mathlib.Nat.{le-refl, le-trans}
 use native.Mathlib.Omega.{arith}
-use lib.Dec.{eqb}
+use lib.Dec.{eqb, lit≤}
 use lib.ListN.{getD, drop, List·getD-append}
 use borrow.Author.Tests.{ne-eqb}
 use Rattle.theory.specs.Lists.{made, madeOver}
@@ -69,3 +70,12 @@ pub code-found : (condition : Condition) (covers numbers : List ℕ) (slot k wat
     → x ≡ cond wet 101 (cond (eqb read 4097) 0 (getD numbers slot 0)) → x ≡ ruleCode condition (cellFrom covers k water way)
 unfolding ruleCode cellFrom numberAt
 code-found condition covers numbers slot k water read way x wet known h s b r e = rw (e, b, s, r, known .each k h)
+
+-- no code is above 101
+pub code-most : (condition : Condition) (c : Cell) → UpTo100 (curveNumber condition (c .N)) → ruleCode condition c ≤ 101
+unfolding ruleCode
+code-most condition c u =
+    byCases (c .open?) (λ e. rw (cond-true (c .open?) e) (le-refl 101))
+    (λ e. rw (cond-false (c .open?) e)
+    (byCases (c .closed?) (λ f. rw (cond-true (c .closed?) f) zero-le)
+    (λ f. rw (cond-false (c .closed?) f) (le-trans (u .most) (lit≤ tt)))))

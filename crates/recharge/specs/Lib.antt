@@ -14,3 +14,5 @@ pub mod OwnWater
 pub mod RuleCodes
 pub mod CellDay
 pub mod Settle
+pub mod Run
+pub mod Stores

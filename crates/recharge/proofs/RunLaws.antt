@@ -1,0 +1,199 @@
+-- A day's passes in a row: the cells' own water and rule codes are those of the paper's cells, so that the water routed along the order is rule 4's,
+-- and the figures settled from it are the day's.
+use mathlib.Core.Path.{_≡_, sym, ap, _∙_}
+use mathlib.Core.Bool.{Bool}
+use mathlib.Core.List.{List}
+use Prim.Native.Nat.{ℕ, _+_, _*_, _≤_, _<_, zero-le}
+use native.Mathlib.Nat.{le-trans, le-of-eq, mul-le-mul-right}
+use native.Mathlib.Omega.{arith}
+use lib.ListN.{length, getD, replicate, length-replicate}
+use Rattle.theory.proofs.Cases.{byCases, cond-true, cond-false}
+use Rattle.theory.specs.Lists.{madeOver}
+use Rattle.theory.specs.Sums.{sum, given}
+use Rattle.theory.proofs.ListLaws.{made-at, made-length, made-cong, over-length}
+use Rattle.theory.proofs.SumLaws.{sum-cong, sum-most}
+use Rattle.paper.specs.Limits.{mostSnow}
+use Rattle.paper.specs.Setup.{Cell}
+use Rattle.paper.specs.State.{mostSnowOf}
+use Rattle.paper.specs.CellDay.{Today, Figures, ownOf, passedOf}
+use Rattle.paper.specs.Covers.{entries}
+use Rattle.paper.proofs.CellDayLaws.{own-most}
+use Rattle.paper.proofs.FlowLaws.{water-same}
+use Rattle.recharge.specs.Cells.{cellIn, cellFrom, figuresFrom}
+use Rattle.recharge.specs.OwnWater.{Slotted, OwnReady}
+use Rattle.recharge.specs.RuleCodes.{ruleCode, numberAt, Numbered}
+use Rattle.recharge.specs.Retention.{table}
+use Rattle.recharge.specs.Routes.{nextIn, ruled, passedBy, Routable, Routed}
+use Rattle.recharge.specs.Settle.{totalsBy, figureIn, goneIn, Ready, Settled}
+use Rattle.recharge.specs.Run.{passedIn, ownIn, reachedIn, dayIn, Runnable, Ran}
+use Rattle.recharge.specs.declared.answers.Totals.{Totals}
+use Rattle.recharge.proofs.SlotNumbers.{slot-number}
+use Rattle.recharge.proofs.RuleLaws.{all-numbered, code-passes, code-most}
+use Rattle.recharge.proofs.FigureLaws.{figures-outflow}
+use Rattle.recharge.proofs.RoutingLaws.{little-water}
+use Rattle.recharge.proofs.WayArrays.{over-at}
+
+-- the totals go by the cells' figures
+totals-same : (n gross : ℕ) (f g : ℕ → Figures) (gone : ℕ → Bool) → ((i : ℕ) → i < n → f i ≡ g i) → totalsBy n gross f gone ≡ totalsBy n gross g gone
+unfolding totalsBy
+totals-same n gross f g gone e =
+    λ k. record {
+      gross = sum n (λ i. gross);
+      intercepted = sum-cong n (λ i. f i .intercepted) (λ i. g i .intercepted) (λ i h. ap (λ (r : Figures). r .intercepted) (e i h)) k;
+      evapotranspired = sum-cong n (λ i. f i .evapotranspired) (λ i. g i .evapotranspired) (λ i h. ap (λ (r : Figures). r .evapotranspired) (e i h)) k;
+      recharged = sum-cong n (λ i. f i .recharged) (λ i. g i .recharged) (λ i h. ap (λ (r : Figures). r .recharged) (e i h)) k;
+      rejected = sum-cong n (λ i. f i .rejected) (λ i. g i .rejected) (λ i h. ap (λ (r : Figures). r .rejected) (e i h)) k;
+      gone = sum-cong n (λ i. given (gone i) (f i .outflow)) (λ i. given (gone i) (g i .outflow)) (λ i h. ap (λ (r : Figures). given (gone i) (r .outflow)) (e i h)) k;
+      stored = sum-cong n (λ i. f i .soil + f i .snow) (λ i. g i .soil + g i .snow) (λ i h. ap (λ (r : Figures). r .soil + r .snow) (e i h)) k;
+    }
+
+module _ (t : Today) (covers slots ways order available soil snow intercepted outflow evapotranspired recharged rejected : List ℕ)
+    (ready : Runnable t covers slots ways order available soil snow intercepted outflow evapotranspired recharged rejected) where
+  abbrev n : ℕ
+  n = length available
+
+  abbrev blank : List ℕ
+  blank = replicate {A = ℕ} 4096 0
+
+  blank-sized : length blank ≡ 4096
+  blank-sized = length-replicate {A = ℕ} 4096 0
+
+  slotted : Slotted covers (length snow) slots
+  slotted =
+      rw (ready .snows)
+      (record {
+        table = ready .cells .table;
+        few = ready .cells .few;
+        sized = ready .cells .sized;
+        slotted = ready .cells .slotted;
+      })
+
+  snow-limit : (i : ℕ) → i < n → getD snow i 0 ≤ mostSnow
+  unfolding mostSnowOf
+  snow-limit i h =
+      let c : Cell = cellIn covers slots available ways i in
+      byCases (c .open?) (λ e. le-trans (rw (cond-true (c .open?) e) at (ready .lying i h)) zero-le)
+      (λ e. rw (cond-false (c .open?) e) at (ready .lying i h))
+
+  pub own-ask : OwnReady t covers slots snow blank
+  own-ask =
+      record {
+        cells = slotted;
+        snows = λ i h. snow-limit i (rw (← ready .snows) h);
+        gross = ready .gross;
+        melts = ready .melts;
+        sized = blank-sized;
+      }
+
+  module _ (numbers rules own : List ℕ)
+      (nums : numbers ≡ madeOver (4 * entries covers) (numberAt (t .condition) covers) (replicate {A = ℕ} 256 0))
+      (coded : Numbered (t .condition) covers numbers → rules ≡ madeOver n (λ i. ruleCode (t .condition) (cellIn covers slots available ways i)) blank)
+      (owned : own ≡ madeOver (length snow) (λ i. ownOf (cellIn covers slots available ways i) t (getD snow i 0)) blank) where
+    rule-at : (i : ℕ) → i < n → getD rules i 0 ≡ ruleCode (t .condition) (cellIn covers slots available ways i)
+    rule-at i h =
+        ap (λ (l : List ℕ). getD l i 0) (coded (all-numbered (t .condition) covers numbers _ nums)) ∙ over-at n _ blank 0 i h
+
+    passes : (i w : ℕ) → i < n → passedBy rules i w ≡ passedIn t covers slots ways available i w
+    unfolding passedIn
+    passes i w h =
+        ap (λ (code : ℕ). ruled code w) (rule-at i h)
+        ∙ code-passes covers (getD slots i 0) (getD available i 0) (getD ways i 4097) t (ready .cells .table) (ready .cells .slotted i h) w
+
+    owns : (i : ℕ) → i < n → getD own i 0 ≡ ownIn t covers slots ways available soil snow i
+    unfolding ownIn
+    owns i h = rw (owned, ready .snows) (over-at n _ blank 0 i h)
+
+    own-limit : (i : ℕ) → i < n → getD own i 0 ≤ 450000
+    unfolding ownIn
+    own-limit i h =
+        omega (arith, owns i h, own-most (cellIn covers slots available ways i) t (getD snow i 0), ready .gross, ready .melts)
+
+    pub route-ask : Routable n ways order rules own outflow
+    route-ask =
+        record {
+          pointing = ready .pointing;
+          ordered = ready .ordered;
+          coded =
+              λ i h. rw (rule-at i h)
+              (code-most (t .condition) (cellIn covers slots available ways i)
+              (unfold cellFrom in (slot-number covers (ready .cells .table) (getD slots i 0) (ready .cells .slotted i h) (t .condition))));
+          sized = ap length owned ∙ over-length (length snow) _ blank (rw (ready .snows) (le-trans (ready .cells .few) (le-of-eq (sym blank-sized)))) ∙ blank-sized;
+          one-each = ready .outflows;
+          little = omega (arith, sum-most n (λ i. getD own i 0) 450000 own-limit, mul-le-mul-right 450000 (ready .cells .few));
+        }
+
+    module _ (reached passedOn : List ℕ) (routed : Routed n ways rules own reached passedOn) where
+      reached-at : (i : ℕ) → i < n → getD reached i 0 ≡ reachedIn t covers slots ways available soil snow i
+      unfolding reachedIn
+      reached-at i h =
+          ap (λ (l : List ℕ). getD l i 0) (routed .water-of)
+          ∙ over-at n _ own 0 i h
+          ∙ water-same n (nextIn ways) (passedBy rules) (passedIn t covers slots ways available) (λ j. getD own j 0)
+          (ownIn t covers slots ways available soil snow) (λ j w hj. passes j w hj) owns i h
+
+      outflow-at : (i : ℕ) → i < n → getD passedOn i 0 ≡ passedOf (cellIn covers slots available ways i) t (getD reached i 0)
+      unfolding passedIn
+      outflow-at i h =
+          ap (λ (l : List ℕ). getD l i 0) (routed .outflow-of)
+          ∙ made-at n _ 0 i h
+          ∙ passes i _ h
+          ∙ ap (passedOf (cellIn covers slots available ways i) t)
+          (sym (ap (λ (l : List ℕ). getD l i 0) (routed .water-of) ∙ over-at n _ own 0 i h))
+
+      pub settle-ask : (f : List ℕ) → f ≡ table → Ready t f covers slots ways reached available soil snow intercepted passedOn evapotranspired recharged rejected
+      settle-ask f e =
+          record {
+            gross = ready .gross;
+            potential = ready .potential;
+            retained = e;
+            cells = ready .cells;
+            pointed = ready .pointing .sized;
+            soils = ready .soils;
+            snows = ready .snows;
+            interceptions = ready .interceptions;
+            outflows = ap length (routed .outflow-of) ∙ made-length n _;
+            evapotranspirations = ready .evapotranspirations;
+            recharges = ready .recharges;
+            rejections = ready .rejections;
+            held = ready .held;
+            lying = ready .lying;
+            joined = ready .joined;
+            wet = λ i h. rw (ap (λ (l : List ℕ). getD l i 0) (routed .water-of) ∙ over-at n _ own 0 i h) (little-water route-ask i h);
+            passed = outflow-at;
+          }
+
+      pub one-each : length passedOn ≡ length outflow
+      one-each = ap length (routed .outflow-of) ∙ made-length n _ ∙ sym (ready .outflows)
+
+      figure-at : (i : ℕ) → i < n
+          → figureIn t covers slots available ways reached soil snow i ≡ dayIn t covers slots ways available soil snow i
+      unfolding figureIn dayIn
+      figure-at i h = ap (figuresFrom (cellIn covers slots available ways i) t (getD soil i 0) (getD snow i 0)) (reached-at i h)
+
+      part : (p : Figures → ℕ) (i : ℕ) → i < n
+          → p (figureIn t covers slots available ways reached soil snow i) ≡ p (dayIn t covers slots ways available soil snow i)
+      part p i h = ap p (figure-at i h)
+
+      pub ran : (totals : Totals) (soil' snow' int et re rj : List ℕ)
+          → Settled n (t .gross) (figureIn t covers slots available ways reached soil snow) (goneIn covers slots ways) totals soil' snow' int et re rj
+          → Ran t covers slots ways available soil snow totals soil' snow' int passedOn et re rj
+      unfolding dayIn
+      ran totals soil' snow' int et re rj s =
+          record {
+            settled =
+                record {
+                  summed = s .summed ∙ totals-same n (t .gross) _ _ (goneIn covers slots ways) figure-at;
+                  soils = s .soils ∙ made-cong n _ _ (part (λ f. f .soil));
+                  snows = s .snows ∙ made-cong n _ _ (part (λ f. f .snow));
+                  interceptions = s .interceptions ∙ made-cong n _ _ (part (λ f. f .intercepted));
+                  evapotranspirations = s .evapotranspirations ∙ made-cong n _ _ (part (λ f. f .evapotranspired));
+                  recharges = s .recharges ∙ made-cong n _ _ (part (λ f. f .recharged));
+                  rejections = s .rejections ∙ made-cong n _ _ (part (λ f. f .rejected));
+                };
+            outflow-is =
+                routed .outflow-of
+                ∙ made-cong n _ _ (λ i h. sym (made-at n _ 0 i h) ∙ ap (λ (l : List ℕ). getD l i 0) (sym (routed .outflow-of))
+                ∙ outflow-at i h
+                ∙ ap (passedOf (cellIn covers slots available ways i) t) (reached-at i h)
+                ∙ sym (figures-outflow (cellIn covers slots available ways i) t (getD soil i 0) (getD snow i 0) _));
+          }

@@ -1,0 +1,72 @@
+-- Tests 9 and 10 of a slot are the paper's of the cell, whichever way it points, and no step of theirs passes 64 bits.
+use mathlib.Core.Path.{_≡_, refl}
+use mathlib.Core.Bool.{Bool, true, false, _&&_}
+use mathlib.Core.List.{List}
+use Prim.Native.Nat.{ℕ, zero, suc, _-_, _*_, _≤_, _<_}
+use native.Mathlib.Nat.{mul-le-mul}
+use native.Mathlib.Omega.{arith}
+use lib.Dec.{leb, eqb}
+use lib.ListN.{getD}
+use borrow.Author.Tests.{lt-leb, ne-eqb}
+use mir.Syntax.{w64}
+use mir.Val.{Fits}
+use Rattle.theory.specs.Sums.{given}
+use Rattle.paper.specs.Interception.{intercepted, net}
+use Rattle.paper.specs.State.{mostSoilOf, mostSnowOf}
+use Rattle.paper.specs.CellDay.{Today, figureOf, netOf, storeOf}
+use Rattle.paper.specs.Refusals.{tooDeep}
+use Rattle.recharge.specs.Cells.{cellFrom, SlotsFit}
+use Rattle.recharge.specs.Stores.{storesFrom, storesAt, fallFrom, deepFrom, deepAt}
+use Rattle.recharge.proofs.CoverLaws.{count-limit}
+
+module _ (covers : List ℕ) (slot water way : ℕ) where
+  pub stores-any : (soil snow : ℕ)
+      → storesFrom covers slot water soil snow
+      ≡ (leb soil (mostSoilOf (cellFrom covers slot water way)) && leb snow (mostSnowOf (cellFrom covers slot water way)))
+  unfolding storesFrom mostSoilOf mostSnowOf cellFrom
+  stores-any soil snow = refl
+
+  pub deep-any : (t : Today) (snow : ℕ)
+      → deepFrom covers slot (t .growing?) (t .snows?) (t .gross) snow ≡ tooDeep (cellFrom covers slot water way) t snow
+  unfolding deepFrom fallFrom tooDeep storeOf netOf figureOf cellFrom
+  deep-any t snow = refl
+
+module _ (covers slots water : List ℕ) (way i : ℕ) where
+  pub stores-at : (soil snow : List ℕ)
+      → storesAt covers slots water soil snow i
+      ≡ (leb (getD soil i 0) (mostSoilOf (cellFrom covers (getD slots i 0) (getD water i 0) way))
+      && leb (getD snow i 0) (mostSnowOf (cellFrom covers (getD slots i 0) (getD water i 0) way)))
+  unfolding storesAt
+  stores-at soil snow = stores-any covers (getD slots i 0) (getD water i 0) way (getD soil i 0) (getD snow i 0)
+
+  pub deep-at : (t : Today) (snow : List ℕ)
+      → deepAt covers slots water t snow i ≡ tooDeep (cellFrom covers (getD slots i 0) (getD water i 0) way) t (getD snow i 0)
+  unfolding deepAt tooDeep storeOf netOf figureOf cellFrom
+  deep-at t snow = refl
+
+pub leb-zero : (n : ℕ) → leb n 0 ≡ eqb n 0
+leb-zero zero = refl
+leb-zero (suc n) = rw (lt-leb (suc n) 0 (omega arith), ne-eqb (suc n) 0 (λ (e : suc n ≡ 0). omega arith))
+
+-- what of the gross figure is beyond the interception figure is net
+pub net-beyond : (gross x figure : ℕ) → x ≡ figure → gross - x ≡ net gross figure
+unfolding net intercepted
+net-beyond gross x figure e = omega arith
+
+given-most : (b : Bool) (x most : ℕ) → x ≤ most → given b x ≤ most
+unfolding given
+given-most true x most h = h
+given-most false x most h = omega arith
+
+pub fall-most : (covers : List ℕ) (slot : ℕ) (growing snows : Bool) (gross : ℕ) → fallFrom covers slot growing snows gross ≤ gross
+unfolding fallFrom net intercepted
+fall-most covers slot growing snows gross = given-most snows _ gross (omega arith)
+
+pub product-fits : (a b : ℕ) → a < 4294967296 → b < 4294967296 → Fits w64 (a * b)
+product-fits a b p q =
+    let product : a * b ≤ 4294967295 * 4294967295 = mul-le-mul {m₁ = b} {n₂ = 4294967295} {m₂ = 4294967295} (omega arith) (omega arith) in
+    record { fits = omega arith }
+
+-- a slot is below 256
+pub slot-fits : {covers : List ℕ} {n : ℕ} {slots water : List ℕ} → SlotsFit covers n slots water → (i : ℕ) → i < n → Fits w64 (getD slots i 0)
+slot-fits {covers} known i h = record { fits = omega (arith, known .slotted i h, count-limit covers (known .table)) }

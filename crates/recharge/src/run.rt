@@ -1,0 +1,57 @@
+// An accepted day over all cells: their own water, its way downhill, and what it does to the ground of each.
+ghost use Rattle.recharge.specs.Calls.{todayOf};
+ghost use Rattle.recharge.specs.Run.{Runnable, Ran};
+use crate::answers::Totals;
+use crate::own_water::own_water;
+use crate::retention::retention;
+use crate::routing::route;
+use crate::rule_codes::curve_numbers;
+use crate::rule_codes::rule_codes;
+use crate::settle::settle;
+use crate::today::Today;
+
+pub(crate) fn run(
+    today: Today,
+    covers: &[u32],
+    slots: &[u32; 4096],
+    ways: &[u32; 4096],
+    order: &[u32; 4096],
+    water: &[u32],
+    soil: &mut [u32],
+    snow: &mut [u32],
+    intercepted: &mut [u32],
+    outflow: &mut [u32],
+    evapotranspired: &mut [u32],
+    recharged: &mut [u32],
+    rejected: &mut [u32],
+) -> Totals
+    requires { ⌜ Runnable (todayOf today) (now covers) (now slots) (now ways) (now order) (now water) (now soil) (now snow) (now intercepted) (now outflow) (now evapotranspired) (now recharged) (now rejected) ⌝ }
+    ensures { λ r. ⌜ Ran (todayOf today) (now (covers .entry)) (now (slots .entry)) (now (ways .entry)) (now (water .entry)) (now (soil .entry)) (now (snow .entry)) r (now (soil .exit)) (now (snow .exit)) (now (intercepted .exit)) (now (outflow .exit)) (now (evapotranspired .exit)) (now (recharged .exit)) (now (rejected .exit)) ⌝ }
+{
+    let n = water.len();
+    let mut numbers = [0u32; 256];
+    let condition = today.condition;
+    curve_numbers(condition, covers, &mut numbers);
+    let mut rules = [0u32; 4096];
+    rule_codes(covers, slots, ways, &numbers, n, &mut rules);
+    let mut reached = [0u32; 4096];
+    own_water(today, covers, slots, snow, &mut reached);
+    route(n, ways, order, &rules, &mut reached, outflow);
+    let f = retention();
+    settle(
+        today,
+        &f,
+        covers,
+        slots,
+        ways,
+        &reached,
+        water,
+        soil,
+        snow,
+        intercepted,
+        outflow,
+        evapotranspired,
+        recharged,
+        rejected,
+    )
+}

@@ -1,0 +1,124 @@
+// Test 9's cells and test 10: each cell's stores, found by its slot.
+ghost use mathlib.Core.Bool.{not, cond};
+ghost use mathlib.Core.Path.{_≡_};
+ghost use Prim.Native.Nat.{_*_, _/_, _≤_, _<_};
+ghost use lib.ListN.{length};
+ghost use Rattle.theory.specs.Lowest.{lowest};
+ghost use Rattle.paper.specs.Limits.{mostGross};
+ghost use Rattle.paper.specs.Covers.{entries, growingOf, dormantOf};
+ghost use Rattle.recharge.specs.Calls.{todayOf};
+ghost use Rattle.recharge.specs.Cells.{SlotsFit};
+ghost use Rattle.recharge.specs.Covers.{placeIn};
+ghost use Rattle.recharge.specs.Stores.{storesFrom, storesAt, fallFrom, deepFrom, deepAt};
+use crate::answers::Place;
+use crate::quantities::Depth;
+use crate::today::Today;
+
+fn wide(x: u32) -> u64
+    ensures { λ r. ⌜ (r ≡ x) × (r < 4294967296) ⌝ }
+{
+    x as u64
+}
+
+fn stores_fit(covers: &[u32], slot: usize, water: u32, soil: u32, snow: u32) -> bool
+    requires { ⌜ slot < 4 * entries (now covers) ⌝ }
+    ensures { λ r. ⌜ r ≡ storesFrom (now (covers .entry)) slot water soil snow ⌝ }
+{
+    let e = slot / 4;
+    if covers[16 * e + 1] == 1 {
+        if soil != 0 {
+            return false;
+        }
+        return snow == 0;
+    }
+    let group = slot % 4 + 1;
+    let depth = covers[16 * e + (11 + group)];
+    if wide(water) * wide(depth) < wide(soil) {
+        return false;
+    }
+    wide(snow) <= Depth::MOST_SNOW.0
+}
+
+// The lowest cell with a store outside its limits.
+pub(crate) fn bad_store(
+    covers: &[u32],
+    slots: &[u32; 4096],
+    water: &[u32],
+    soil: &[u32],
+    snow: &[u32],
+) -> Place
+    requires { ⌜ SlotsFit (now covers) (length (now water)) (now slots) (now water) × (length (now soil) ≡ length (now water)) × (length (now snow) ≡ length (now water)) ⌝ }
+    ensures { λ r. ⌜ r ≡ placeIn (lowest (length (now (water .entry))) (λ i. not (storesAt (now (covers .entry)) (now (slots .entry)) (now (water .entry)) (now (soil .entry)) (now (snow .entry)) i))) ⌝ }
+{
+    let n = water.len();
+    let mut i = 0;
+    while i < n {
+        if !stores_fit(covers, slots[i] as usize, water[i], soil[i], snow[i]) {
+            return Place::At(i);
+        }
+        i += 1;
+    }
+    Place::Nowhere
+}
+
+// The cover's interception figure for the season.
+fn figure_at(covers: &[u32], slot: usize, growing: bool) -> u64
+    requires { ⌜ slot < 4 * entries (now covers) ⌝ }
+    ensures { λ r. ⌜ r ≡ cond growing (growingOf (now (covers .entry)) (slot / 4)) (dormantOf (now (covers .entry)) (slot / 4)) ⌝ }
+{
+    let e = slot / 4;
+    if growing {
+        wide(covers[16 * e + 10])
+    } else {
+        wide(covers[16 * e + 11])
+    }
+}
+
+// What falls on the store: the net precipitation where it snows, else nothing.
+fn fall_at(covers: &[u32], slot: usize, growing: bool, snows: bool, gross: Depth) -> Depth
+    requires { ⌜ slot < 4 * entries (now covers) ⌝ }
+    ensures { λ r. ⌜ r .0 ≡ fallFrom (now (covers .entry)) slot growing snows (gross .0) ⌝ }
+{
+    if snows {
+        gross.beyond(Depth(figure_at(covers, slot, growing)))
+    } else {
+        Depth(0)
+    }
+}
+
+fn is_deep(covers: &[u32], slot: usize, growing: bool, snows: bool, gross: Depth, snow: u32) -> bool
+    requires { ⌜ (slot < 4 * entries (now covers)) × (gross .0 ≤ mostGross) ⌝ }
+    ensures { λ r. ⌜ r ≡ deepFrom (now (covers .entry)) slot growing snows (gross .0) snow ⌝ }
+{
+    let e = slot / 4;
+    if covers[16 * e + 1] == 1 {
+        return false;
+    }
+    let fall = fall_at(covers, slot, growing, snows, gross);
+    Depth::MOST_SNOW.0 < wide(snow) + fall.0
+}
+
+// The lowest cell whose store the day's snowfall would take past its limit.
+pub(crate) fn too_deep(
+    today: Today,
+    covers: &[u32],
+    slots: &[u32; 4096],
+    water: &[u32],
+    snow: &[u32],
+) -> Place
+    requires { ⌜ SlotsFit (now covers) (length (now water)) (now slots) (now water) × (length (now snow) ≡ length (now water)) × (today .gross .0 ≤ mostGross) ⌝ }
+    ensures { λ r. ⌜ r ≡ placeIn (lowest (length (now (water .entry))) (λ i. deepAt (now (covers .entry)) (now (slots .entry)) (now (water .entry)) (todayOf today) (now (snow .entry)) i)) ⌝ }
+{
+    let gross = today.gross;
+    let growing = today.growing;
+    let snows = today.snows;
+    let n = water.len();
+    let mut i = 0;
+    while i < n {
+        if is_deep(covers, slots[i] as usize, growing, snows, gross, snow[i]) {
+            return Place::At(i);
+        }
+        i += 1;
+    }
+    Place::Nowhere
+}
