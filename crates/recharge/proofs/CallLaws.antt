@@ -46,3 +46,19 @@ module _ (s : Setup) where
         no-ways = refl;
         no-order = refl;
       }
+
+  -- arrays that hold nothing yet
+  pub blank-arrays : (slots ways order : List ℕ) → slots ≡ replicate 4096 0 → ways ≡ replicate 4096 4097 → order ≡ replicate 4096 0
+    → Surveyable s (replicate 4096 0) (replicate 4096 4097) (replicate 4096 0) → Surveyable s slots ways order
+  blank-arrays slots ways order a b c ok =
+      record {
+        wide = ok .wide;
+        high = ok .high;
+        few = ok .few;
+        directions = ok .directions;
+        covers = ok .covers;
+        groups = ok .groups;
+        waters = ok .waters;
+        no-slots = a;
+        no-ways = b;
+        no-order = c }

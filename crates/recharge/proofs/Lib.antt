@@ -23,5 +23,6 @@ pub mod StoreLaws
 pub mod SumsAlong
 pub mod SurveyLaws
 pub mod Temperatures
+pub mod TestLaws
 pub mod WayArrays
 pub mod WayLaying

@@ -6,13 +6,13 @@ use Prim.Native.Nat.{ℕ, _<_}
 use lib.ListN.{length, getD, replicate}
 use borrow.Author.Tests.{leb-true}
 use Rattle.theory.proofs.Cases.{and-left, and-right}
+use Rattle.theory.specs.Lists.{madeOver}
 use Rattle.theory.proofs.ListLaws.{over-length}
 use Rattle.paper.specs.Setup.{Setup, cell, cells, gridFits, cellFits, next}
 use Rattle.paper.specs.Refusals.{grid, lent, coverTable, cellNumbers, ring, season, dayRecord, serialGap, stateAt, snowfall, Verdict, accepted, refused, verdict, oneEach, mapTests}
 use Rattle.paper.proofs.SetupLaws.{Charted, Sound, sound}
 use Rattle.recharge.specs.Calls.{outcomeIn, verdictAs}
 use Rattle.recharge.specs.Cells.{slotOf, cellIn, SlotsFit}
-use Rattle.recharge.specs.Survey.{Mapped}
 use Rattle.recharge.specs.declared.answers.Outcome.the-variants.{Accepted}
 use Rattle.recharge.proofs.CallLaws.{on-the-map}
 use Rattle.recharge.proofs.CellLaws.{slot-limit, cell-is}
@@ -39,12 +39,10 @@ pub sound-setup : (s : Setup) (lengths : List ℕ) → gridFits s ≡ true → o
     → verdict (mapTests s) ≡ accepted → Sound s lengths
 sound-setup s lengths g e v = sound s lengths [] (rw append-nil (on-the-map s lengths g e ∙ v))
 
-module _ (s : Setup) (slots ways order : List ℕ) (ok : Charted s) (m : Mapped s slots ways order) (each : length (s .water) ≡ cells s) where
+module _ (s : Setup) (ok : Charted s) (slots : List ℕ) (slots-are : slots ≡ madeOver (cells s) (slotOf s) (replicate 4096 0))
+  (each : length (s .water) ≡ cells s) where
   pub slot-at : (i : ℕ) → i < cells s → getD slots i 0 ≡ slotOf s i
-  slot-at i h = rw (m .slots-are) (over-at (cells s) (slotOf s) (replicate 4096 0) 0 i h)
-
-  pub way-at : (i : ℕ) → i < cells s → getD ways i 4097 ≡ next s i
-  way-at i h = rw (m .ways-are) (over-at (cells s) (next s) (replicate 4096 4097) 4097 i h)
+  slot-at i h = rw (slots-are) (over-at (cells s) (slotOf s) (replicate 4096 0) 0 i h)
 
   pub slots-fit : SlotsFit (s .covers) (cells s) slots (s .water)
   unfolding cellFits
@@ -52,11 +50,15 @@ module _ (s : Setup) (slots ways order : List ℕ) (ok : Charted s) (m : Mapped 
       record {
         table = record { sized = ok .sized; fit = ok .entered };
         few = ok .few;
-        sized = ap length (m .slots-are) ∙ over-length (cells s) (slotOf s) (replicate 4096 0) (ok .few);
+        sized = ap length (slots-are) ∙ over-length (cells s) (slotOf s) (replicate 4096 0) (ok .few);
         slotted = λ i h. rw (slot-at i h) (slot-limit s ok i h);
         each = each;
         watered = λ i h. leb-true _ _ (let fits : cellFits s i ≡ true = ok .celled i h in search (and-left, and-right));
       }
 
-  pub cell-in : (i : ℕ) → i < cells s → cellIn (s .covers) slots (s .water) ways i ≡ cell s i
-  cell-in i h = rw (slot-at i h, way-at i h) (sym (cell-is s ok i h))
+  module _ (ways : List ℕ) (ways-are : ways ≡ madeOver (cells s) (next s) (replicate 4096 4097)) where
+    pub way-at : (i : ℕ) → i < cells s → getD ways i 4097 ≡ next s i
+    way-at i h = rw (ways-are) (over-at (cells s) (next s) (replicate 4096 4097) 4097 i h)
+
+    pub cell-in : (i : ℕ) → i < cells s → cellIn (s .covers) slots (s .water) ways i ≡ cell s i
+    cell-in i h = rw (slot-at i h, way-at i h) (sym (cell-is s ok i h))

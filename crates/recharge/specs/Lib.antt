@@ -16,3 +16,4 @@ pub mod CellDay
 pub mod Settle
 pub mod Run
 pub mod Stores
+pub mod Tests

@@ -1,25 +1,13 @@
 // The office's three calls.
-ghost use mathlib.Core.Bool.{true};
 ghost use mathlib.Core.Path.{_≡_};
-ghost use Rattle.paper.specs.Setup.{cells, gridFits};
 ghost use Rattle.paper.specs.Day.{checkOf};
-ghost use Rattle.recharge.specs.Calls.{setupOf, gridOf, outcomeIn};
+ghost use Rattle.recharge.specs.Calls.{setupOf, outcomeIn};
 use crate::answers::Outcome;
 use crate::answers::Setup;
-use crate::lent::place;
+use crate::limits::count;
 use crate::limits::grid_fits;
 use crate::limits::setup_each;
 use crate::survey::survey;
-
-// The number of cells of a grid within its limits.
-fn count(setup: Setup) -> usize
-    requires { ⌜ gridFits (gridOf setup) ≡ true ⌝ }
-    ensures { λ r. ⌜ r ≡ cells (gridOf setup) ⌝ }
-{
-    let width = setup.width;
-    let height = setup.height;
-    place(width * height)
-}
 
 // The setup check: tests 1 to 6.
 pub fn check(

@@ -23,6 +23,7 @@ mod snow;
 mod soil;
 mod stores;
 mod survey;
+mod tests;
 mod today;
 mod ways;
 

@@ -1,9 +1,10 @@
 // The limits of what is handed over: tests 1, 2 and 6 to 8, and of test 9 the memory and the last serial.
 ghost use mathlib.Core.List.{[], _∷_};
+ghost use mathlib.Core.Bool.{true};
 ghost use mathlib.Core.Path.{_≡_};
 ghost use lib.Signed.{leZ};
 ghost use Rattle.paper.specs.Limits.{withinℤ, leastTemperature, mostTemperature};
-ghost use Rattle.paper.specs.Setup.{gridFits, seasonFits, growing as growingOn};
+ghost use Rattle.paper.specs.Setup.{cells, gridFits, seasonFits, growing as growingOn};
 ghost use Rattle.paper.specs.State.{memoryFits, lastFits, dayFits, follows as followsOn};
 ghost use Rattle.paper.specs.Refusals.{oneEach};
 ghost use Rattle.recharge.specs.Quantities.{tenths, memoryOf};
@@ -11,6 +12,7 @@ ghost use Rattle.recharge.specs.Calls.{gridOf, lastOf, dayIn};
 use crate::answers::DayRecord;
 use crate::answers::Last;
 use crate::answers::Setup;
+use crate::lent::place;
 use crate::quantities::Depth;
 use crate::quantities::Memory;
 use crate::quantities::TenthF;
@@ -28,6 +30,16 @@ pub(crate) fn grid_fits(setup: Setup) -> bool
         return false;
     }
     height <= 4096 / width
+}
+
+// The number of cells of a grid within its limits.
+pub(crate) fn count(setup: Setup) -> usize
+    requires { ⌜ gridFits (gridOf setup) ≡ true ⌝ }
+    ensures { λ r. ⌜ r ≡ cells (gridOf setup) ⌝ }
+{
+    let width = setup.width;
+    let height = setup.height;
+    place(width * height)
 }
 
 pub(crate) fn season_fits(setup: Setup) -> bool

@@ -32,3 +32,11 @@ cond-true false e x y = absurd (true≢false (sym e))
 pub cond-false : {A : Type 0} (b : Bool) → b ≡ false → (x y : A) → cond b x y ≡ y
 cond-false true e x y = absurd (true≢false e)
 cond-false false e x y = refl
+
+pub and-first : (a b : Bool) → a ≡ false → (a && b) ≡ false
+and-first true b e = absurd (true≢false e)
+and-first false b e = refl
+
+pub and-second : (a b : Bool) → b ≡ false → (a && b) ≡ false
+and-second true b e = e
+and-second false b e = refl

@@ -1,10 +1,10 @@
--- `calls::count` meets its contract: a grid within its limits has at most 4,096 cells.
+-- `limits::count` meets its contract: a grid within its limits has at most 4,096 cells.
 use native.Mathlib.Omega.{arith}
 use Rattle.paper.specs.Setup.{cells}
 use Rattle.recharge.proofs.CallLaws.{few-cells}
 use borrow.Author.Needs.{needs}
-use Rattle.recharge.proofs.calls.count.Statement.{statement}
-use Rattle.recharge.proofs.calls.count.Tie as tie
+use Rattle.recharge.proofs.limits.count.Statement.{statement}
+use Rattle.recharge.proofs.limits.count.Tie as tie
 
 mul-place : tie.Need-mul-place
 unfolding cells
