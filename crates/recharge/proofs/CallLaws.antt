@@ -49,7 +49,7 @@ module _ (s : Setup) where
 
   -- arrays that hold nothing yet
   pub blank-arrays : (slots ways order : List ℕ) → slots ≡ replicate 4096 0 → ways ≡ replicate 4096 4097 → order ≡ replicate 4096 0
-    → Surveyable s (replicate 4096 0) (replicate 4096 4097) (replicate 4096 0) → Surveyable s slots ways order
+      → Surveyable s (replicate 4096 0) (replicate 4096 4097) (replicate 4096 0) → Surveyable s slots ways order
   blank-arrays slots ways order a b c ok =
       record {
         wide = ok .wide;
@@ -61,4 +61,5 @@ module _ (s : Setup) where
         waters = ok .waters;
         no-slots = a;
         no-ways = b;
-        no-order = c }
+        no-order = c;
+      }

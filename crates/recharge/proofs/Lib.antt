@@ -1,3 +1,4 @@
+pub mod AnswerLaws
 pub mod CallLaws
 pub mod CellLaws
 pub mod CoverLaws

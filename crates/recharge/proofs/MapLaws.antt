@@ -40,7 +40,7 @@ pub sound-setup : (s : Setup) (lengths : List ℕ) → gridFits s ≡ true → o
 sound-setup s lengths g e v = sound s lengths [] (rw append-nil (on-the-map s lengths g e ∙ v))
 
 module _ (s : Setup) (ok : Charted s) (slots : List ℕ) (slots-are : slots ≡ madeOver (cells s) (slotOf s) (replicate 4096 0))
-  (each : length (s .water) ≡ cells s) where
+    (each : length (s .water) ≡ cells s) where
   pub slot-at : (i : ℕ) → i < cells s → getD slots i 0 ≡ slotOf s i
   slot-at i h = rw (slots-are) (over-at (cells s) (slotOf s) (replicate 4096 0) 0 i h)
 

@@ -109,6 +109,9 @@ module _
     ready-gone growing g out gone st eo e =
         e ∙ ap (λ (b : Bool). given b out) (gone-as growing g st) ∙ ap (given (goneIn covers slots ways i)) (eo ∙ sym leaving)
 
+pub gone-most : (b : Bool) (gone x out : ℕ) → gone ≡ given b x → out ≡ x → gone ≤ out
+gone-most b gone x out e q = rw (e, q) (given-most b x)
+
 -- six slices of n entries each
 pub record Sizes (n : ℕ) (a b c d e f : List ℕ) : Type 0 where
   pub soil : length a ≡ n

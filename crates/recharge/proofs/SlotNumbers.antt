@@ -13,7 +13,8 @@ use Rattle.paper.specs.Covers.{curveNumberOf, rootDepthOf, entries, groupFits, 
 use Rattle.paper.specs.CurveNumber.{Condition, curveNumber}
 use Rattle.paper.proofs.CurveNumberLaws.{UpTo100, curve-number-limits}
 use Rattle.recharge.specs.Covers.{EntriesFit}
-use Rattle.recharge.specs.Cells.{cellFrom}
+use Rattle.recharge.specs.Cells.{cellFrom, SlotsFit}
+use Rattle.recharge.specs.OwnWater.{Slotted}
 use Rattle.recharge.specs.Quantities.{mostCapacity}
 
 pub whole-entry : (covers : List ℕ) (slot : ℕ) → slot < 4 * entries covers → 16 * (slot / 4) + 16 ≤ length covers
@@ -57,3 +58,7 @@ module _ (covers : List ℕ) (fit : EntriesFit covers) (slot : ℕ) (h : slot < 
   pub slot-capacity : (water way : ℕ) → water ≤ 600 → cellFrom covers slot water way .capacity ≤ mostCapacity
   unfolding cellFrom
   slot-capacity water way w = mul-le-mul w root-depth-limit
+
+-- the slots and the table without the cells' available water
+pub slots-of : {covers : List ℕ} {n : ℕ} {slots water : List ℕ} → SlotsFit covers n slots water → Slotted covers n slots
+slots-of fit = record { table = fit .table; few = fit .few; sized = fit .sized; slotted = fit .slotted }

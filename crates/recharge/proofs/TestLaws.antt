@@ -1,6 +1,6 @@
 -- A day's tests by slots are the paper's: what the searches over the cells find is the lowest cell of tests 9 and 10.
 use mathlib.Core.Path.{_≡_, refl, sym, ap, _∙_}
-use mathlib.Core.Bool.{Bool, true, false, not, _&&_, and-assoc}
+use mathlib.Core.Bool.{Bool, true, not, _&&_, and-assoc}
 use mathlib.Core.List.{List, [], _∷_, _++_, append-assoc}
 use Prim.Native.Nat.{ℕ, _<_}
 use native.Mathlib.Omega.{arith}
@@ -43,7 +43,7 @@ module _ (s : Setup) (st : State) (slots : List ℕ) (ok : Testable s (st .soil)
   cell-of i h = rw (slot-at s charted slots (ok .slots-are) waters i h) (sym (cell-is s charted i h))
 
   pub stores-found : lowest (length (s .water)) (λ i. not (storesAt (s .covers) slots (s .water) (st .soil) (st .snow) i))
-    ≡ lowest (cells s) (λ i. not (storesFit s st i))
+      ≡ lowest (cells s) (λ i. not (storesFit s st i))
   unfolding storesFit
   stores-found =
       ap (λ (n : ℕ). lowest n (λ i. not (storesAt (s .covers) slots (s .water) (st .soil) (st .snow) i))) waters
@@ -51,7 +51,7 @@ module _ (s : Setup) (st : State) (slots : List ℕ) (ok : Testable s (st .soil)
       ∙ ap (λ (c : Cell). leb (soilAt st i) (mostSoilOf c) && leb (snowAt st i) (mostSnowOf c)) (cell-of i h)))
 
   pub deep-found : (t : Today) → lowest (length (s .water)) (λ i. deepAt (s .covers) slots (s .water) t (st .snow) i)
-    ≡ lowest (cells s) (λ i. tooDeep (cell s i) t (snowAt st i))
+      ≡ lowest (cells s) (λ i. tooDeep (cell s i) t (snowAt st i))
   deep-found t =
       ap (λ (n : ℕ). lowest n (λ i. deepAt (s .covers) slots (s .water) t (st .snow) i)) waters
       ∙ lowest-cong (cells s) _ _ (λ i h. deep-at (s .covers) slots (s .water) (next s i) i t (st .snow)
@@ -60,17 +60,18 @@ module _ (s : Setup) (st : State) (slots : List ℕ) (ok : Testable s (st .soil)
 -- all ten tests, refused or accepted
 module _ (s : Setup) (lengths : List ℕ) (st : State) (d : Day) where
   pub refuse-tests : (r : Outcome) (why : Refusal) (slots ways order : List ℕ) → verdict (setupTests s lengths) ≡ refused why → r ≡ refusedAs why
-    → Tested s lengths st d r slots ways order
+      → Tested s lengths st d r slots ways order
   refuse-tests r why slots ways order v e =
       let all : verdict (setupTests s lengths ++ dayTests s st d) ≡ refused why = refused-then (dayTests s st d) (setupTests s lengths) why v in
       record {
         outcome = e ∙ sym (ap outcomeIn all);
-        mapped = λ a. absurd (let z : _≡_ {A = ℕ} 0 1 = cc in omega arith) }
+        mapped = λ a. absurd (let z : _≡_ {A = ℕ} 0 1 = cc in omega arith);
+      }
 
   module _ (grid : gridFits s ≡ true) (each : oneEach (cells s) lengths ≡ true) where
     -- where the survey refused, so do the tests
     pub survey-refuses : (r : Outcome) (slots ways order : List ℕ) → r ≡ outcomeIn (verdict (mapTests s)) → (r ≡ Accepted → ⊥)
-      → Tested s lengths st d r slots ways order
+        → Tested s lengths st d r slots ways order
     survey-refuses r slots ways order e not = go (verdict (mapTests s)) refl
       where
         go : (v : Verdict) → verdict (mapTests s) ≡ v → Tested s lengths st d r slots ways order
@@ -78,11 +79,12 @@ module _ (s : Setup) (lengths : List ℕ) (st : State) (d : Day) where
         go (refused why) q = refuse-tests r why slots ways order (on-the-map s lengths grid each ∙ q) (e ∙ ap outcomeIn q)
 
     pub day-decides : (r : Outcome) (slots ways order : List ℕ) → verdict (mapTests s) ≡ accepted → r ≡ outcomeIn (verdict (dayTests s st d))
-      → Mapped s slots ways order → Tested s lengths st d r slots ways order
+        → Mapped s slots ways order → Tested s lengths st d r slots ways order
     day-decides r slots ways order v e m =
         record {
           outcome = e ∙ sym (ap outcomeIn (accepted-then (dayTests s st d) (setupTests s lengths) (on-the-map s lengths grid each ∙ v)));
-          mapped = λ a. m }
+          mapped = λ a. m;
+        }
 
 -- one entry a cell in the slices of both lists
 pub each-both : (n : ℕ) (xs ys : List ℕ) → oneEach n (xs ++ ys) ≡ (oneEach n xs && oneEach n ys)

@@ -17,3 +17,4 @@ pub mod Settle
 pub mod Run
 pub mod Stores
 pub mod Tests
+pub mod Answers

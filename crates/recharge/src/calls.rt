@@ -1,13 +1,24 @@
 // The office's three calls.
 ghost use mathlib.Core.Path.{_≡_};
-ghost use Rattle.paper.specs.Day.{checkOf};
-ghost use Rattle.recharge.specs.Calls.{setupOf, outcomeIn};
+ghost use Rattle.paper.specs.Day.{checkOf, dayOf, noTotals};
+ghost use Rattle.recharge.specs.Calls.{setupOf, stateOf, dayIn, outcomeIn};
+ghost use Rattle.recharge.specs.Settle.{totalsIn};
+ghost use Rattle.recharge.specs.Answers.{resultsOf, answered};
+use crate::answers::Answer;
+use crate::answers::DayRecord;
+use crate::answers::Last;
 use crate::answers::Outcome;
 use crate::answers::Setup;
 use crate::limits::count;
 use crate::limits::grid_fits;
 use crate::limits::setup_each;
+use crate::quantities::Memory;
+use crate::run::run;
+use crate::settle::none_yet;
 use crate::survey::survey;
+use crate::tests::Lengths;
+use crate::tests::tests;
+use crate::today::today_of;
 
 // The setup check: tests 1 to 6.
 pub fn check(
@@ -41,4 +52,90 @@ pub fn check(
         &mut way,
         &mut turn,
     )
+}
+
+// A day refused hands back what it was given, and no totals.
+fn refused(outcome: Outcome, memory: Memory, last: Last) -> Answer
+    ensures { λ r. ⌜ (r .outcome ≡ outcome) × (totalsIn (r .totals) ≡ noTotals) × (r .memory ≡ memory) × (r .last ≡ last) ⌝ }
+{
+    Answer {
+        outcome,
+        totals: none_yet(),
+        memory,
+        last,
+    }
+}
+
+// One day: tests 1 to 10, then the five results and the two stores of every cell, the totals, the next memory and the serial.
+pub fn day(
+    setup: Setup,
+    covers: &[u32],
+    direction: &[u32],
+    cover: &[u32],
+    group: &[u32],
+    water: &[u32],
+    soil: &mut [u32],
+    snow: &mut [u32],
+    intercepted: &mut [u32],
+    outflow: &mut [u32],
+    evapotranspired: &mut [u32],
+    recharged: &mut [u32],
+    rejected: &mut [u32],
+    memory: Memory,
+    last: Last,
+    day: DayRecord,
+) -> Answer
+    ensures { λ r. ⌜ answered r (now (soil .exit)) (now (snow .exit)) (now (intercepted .exit)) (now (outflow .exit)) (now (evapotranspired .exit)) (now (recharged .exit)) (now (rejected .exit)) ≡ dayOf (setupOf setup (now (covers .entry)) (now (direction .entry)) (now (cover .entry)) (now (group .entry)) (now (water .entry))) (stateOf (now (soil .entry)) (now (snow .entry)) memory last) (resultsOf (now (intercepted .entry)) (now (outflow .entry)) (now (evapotranspired .entry)) (now (recharged .entry)) (now (rejected .entry))) (dayIn day) ⌝ }
+{
+    let mut slot = [0u32; 4096];
+    let mut way = [4097u32; 4096];
+    let mut turn = [0u32; 4096];
+    let lengths = Lengths {
+        intercepted: intercepted.len(),
+        outflow: outflow.len(),
+        evapotranspired: evapotranspired.len(),
+        recharged: recharged.len(),
+        rejected: rejected.len(),
+    };
+    let outcome = tests(
+        setup,
+        covers,
+        direction,
+        cover,
+        group,
+        water,
+        soil,
+        snow,
+        lengths,
+        memory,
+        last,
+        day,
+        &mut slot,
+        &mut way,
+        &mut turn,
+    );
+    let Outcome::Accepted = outcome else {
+        return refused(outcome, memory, last);
+    };
+    let totals = run(
+        today_of(setup, memory, day),
+        covers,
+        &slot,
+        &way,
+        &turn,
+        water,
+        soil,
+        snow,
+        intercepted,
+        outflow,
+        evapotranspired,
+        recharged,
+        rejected,
+    );
+    Answer {
+        outcome,
+        totals,
+        memory: memory.next(day.gross),
+        last: Last::Serial(day.serial),
+    }
 }

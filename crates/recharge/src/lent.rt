@@ -1,6 +1,5 @@
 // A lent cell has 32 bits, and the rules work in 64.
 ghost use mathlib.Core.Path.{_≡_};
-ghost use Prim.Native.Nat.{_<_};
 use crate::quantities::Depth;
 
 pub(crate) fn place(cell: u32) -> usize
@@ -19,11 +18,4 @@ pub(crate) fn depth(cell: u32) -> Depth
     ensures { λ r. ⌜ r .0 ≡ cell ⌝ }
 {
     Depth(cell as u64)
-}
-
-pub(crate) fn stored(depth: Depth) -> u32
-    requires { ⌜ depth .0 < 4294967296 ⌝ }
-    ensures { λ r. ⌜ r ≡ depth .0 ⌝ }
-{
-    depth.0 as u32
 }

@@ -27,9 +27,15 @@ mod tests;
 mod today;
 mod ways;
 
+pub use answers::Answer;
+pub use answers::DayRecord;
+pub use answers::Last;
 pub use answers::Outcome;
 pub use answers::Setup;
+pub use answers::Start;
+pub use answers::Totals;
 pub use calls::check;
+pub use calls::day;
 pub use quantities::CurveNumber;
 pub use quantities::Depth;
 pub use quantities::Memory;

@@ -16,7 +16,6 @@ use crate::ground::season_figure;
 use crate::interception::intercepted;
 use crate::lent::depth;
 use crate::lent::place;
-use crate::lent::stored;
 use crate::quantities::Depth;
 use crate::snow::melt;
 use crate::today::Today;
@@ -78,7 +77,7 @@ pub(crate) fn own_water(
     let mut i = 0;
     while i < snow.len() {
         let slot = place(slots[i]);
-        own[i] = stored(own_at(today, covers, slot, depth(snow[i])));
+        own[i] = own_at(today, covers, slot, depth(snow[i])).0 as u32;
         i += 1;
     }
 }

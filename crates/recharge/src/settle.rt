@@ -33,7 +33,7 @@ fn gone_from(open_water: bool, way: u32, outflow: Depth) -> Depth
     Depth(0)
 }
 
-fn none_yet() -> Totals
+pub(crate) fn none_yet() -> Totals
     ensures { λ r. ⌜ totalsIn r ≡ noTotals ⌝ }
 {
     Totals {

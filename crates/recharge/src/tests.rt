@@ -106,15 +106,41 @@ pub(crate) fn tests(
         return Outcome::LentSize;
     }
     if !results_each(
-        n, results.intercepted, results.outflow, results.evapotranspired, results.recharged, results.rejected,
+        n,
+        results.intercepted,
+        results.outflow,
+        results.evapotranspired,
+        results.recharged,
+        results.rejected,
     ) {
         return Outcome::LentSize;
     }
-    let outcome = survey(setup, covers, direction, cover, group, water, slot, way, turn);
+    let outcome = survey(
+        setup,
+        covers,
+        direction,
+        cover,
+        group,
+        water,
+        slot,
+        way,
+        turn,
+    );
     let Outcome::Accepted = outcome else {
         return outcome;
     };
     day_tests(
-        setup, covers, direction, cover, group, water, soil, snow, slot, memory, last, day,
+        setup,
+        covers,
+        direction,
+        cover,
+        group,
+        water,
+        soil,
+        snow,
+        slot,
+        memory,
+        last,
+        day,
     )
 }

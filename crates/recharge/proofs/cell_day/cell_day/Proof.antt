@@ -1,32 +1,24 @@
-use borrow.Author.Needs.{needs}
-use Rattle.recharge.proofs.cell_day.cell_day.Statement.{statement}
-use Rattle.recharge.proofs.cell_day.cell_day.Tie as tie
-use Rattle.recharge.proofs.cell_day.cell_day.Reads as reads
-use Rattle.recharge.proofs.cell_day.cell_day.Lts as lts
-use Rattle.recharge.proofs.own_water.bring.Reads as bring-reads
-use Rattle.recharge.proofs.quantities.Depth.beyond.Reads as beyond-reads
-use Rattle.recharge.proofs.soil.soil_day.Reads as soil-day-reads
+-- `cell_day::cell_day` meets its contract: on open water all that reached the cell flows out, and on land what the day brings and what the soil does are the
+-- paper's figures.
 use mathlib.Core.Path.{sym, _∙_}
+use borrow.Author.Needs.{needs}
 use Rattle.paper.specs.CellDay.{figureOf}
 use Rattle.recharge.proofs.FigureLaws.{open-figures, land-figures}
+use Rattle.recharge.proofs.cell_day.cell_day.Statement.{statement}
+use Rattle.recharge.proofs.cell_day.cell_day.Tie as tie
 
--- src/cell_day.rt:39:9
 returns : tie.Need-returns
 returns c = λ cell st p. open-figures cell _ _ _ _ _ (sym (st .open?) ∙ c .if1 .taken) p
 
--- src/cell_day.rt:53:9
 bring-requires : tie.Need-bring-requires
 bring-requires c κs = search needs
 
--- src/cell_day.rt:54:54
 beyond-requires : tie.Need-beyond-requires
 beyond-requires c κs = search needs
 
--- src/cell_day.rt:54:9
 soil-day-requires : tie.Need-soil-day-requires
 soil-day-requires c κs = search needs
 
--- src/cell_day.rt:26:1
 returns-2 : tie.Need-returns-2
 unfolding figureOf
 returns-2 c = λ cell st p.

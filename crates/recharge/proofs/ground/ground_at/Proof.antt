@@ -1,53 +1,40 @@
-use borrow.Author.Needs.{needs}
-use Rattle.recharge.proofs.ground.ground_at.Statement.{statement}
-use Rattle.recharge.proofs.ground.ground_at.Tie as tie
-use Rattle.recharge.proofs.ground.ground_at.Reads as reads
-use Rattle.recharge.proofs.ground.ground_at.Lts as lts
-use Rattle.recharge.proofs.ground.is_open.Reads as is-open-reads
-use Rattle.recharge.proofs.ground.number.Reads as number-reads
-use Rattle.recharge.proofs.ground.season_figure.Reads as season-figure-reads
-use Prim.Native.Nat.{ℕ, _*_}
+-- `ground::ground_at` meets its contract: each number is read at the slot's entry and group, and the capacity is at most 600 × 1,000.
 use mathlib.Core.Path.{ap}
+use Prim.Native.Nat.{ℕ, _*_}
 use native.Mathlib.Nat.{mul-le-mul}
 use native.Mathlib.Omega.{arith}
+use borrow.Author.Needs.{needs}
 use Rattle.recharge.specs.Cells.{cellFrom}
 use Rattle.recharge.proofs.SlotNumbers.{root-depth-limit}
+use Rattle.recharge.proofs.ground.ground_at.Statement.{statement}
+use Rattle.recharge.proofs.ground.ground_at.Tie as tie
 
--- src/ground.rt:58:17
 add-group : tie.Need-add-group
 add-group c = search needs
 
--- src/ground.rt:59:43
 add-number : tie.Need-add-number
 add-number c = search needs
 
--- src/ground.rt:59:9
 number-requires : tie.Need-number-requires
 number-requires c κs = search needs
 
--- src/ground.rt:60:40
 add-number-2 : tie.Need-add-number-2
 add-number-2 c = search needs
 
--- src/ground.rt:60:9
 number-requires-2 : tie.Need-number-requires-2
 number-requires-2 c κs = search needs
 
--- src/ground.rt:62:21
 is-open-requires : tie.Need-is-open-requires
 is-open-requires c κs = search needs
 
--- src/ground.rt:63:25
 mul-t10 : tie.Need-mul-t10
 mul-t10 c =
     let p = c .before .before .before .before .pre in
     rw (c .before .before .number .ensures) (omega (arith, mul-le-mul (p .2) (root-depth-limit _ (p .0) _ (p .1))))
 
--- src/ground.rt:65:17
 season-figure-requires : tie.Need-season-figure-requires
 season-figure-requires c κs = search needs
 
--- src/ground.rt:54:1
 returns : tie.Need-returns
 unfolding cellFrom
 returns c =

@@ -1,18 +1,14 @@
-use borrow.Author.Needs.{needs}
-use Rattle.recharge.proofs.ground.is_open.Statement.{statement}
-use Rattle.recharge.proofs.ground.is_open.Tie as tie
-use Rattle.recharge.proofs.ground.is_open.Reads as reads
-use Rattle.recharge.proofs.ground.is_open.Lts as lts
-use Rattle.recharge.proofs.ground.number.Reads as number-reads
+-- `ground::is_open` meets its contract: it tests the entry's own number for open water.
 use mathlib.Core.Path.{ap}
 use Prim.Native.Nat.{ℕ}
 use lib.Dec.{eqb}
+use borrow.Author.Needs.{needs}
+use Rattle.recharge.proofs.ground.is_open.Statement.{statement}
+use Rattle.recharge.proofs.ground.is_open.Tie as tie
 
--- src/ground.rt:33:5
 number-requires : tie.Need-number-requires
 number-requires c κs = search needs
 
--- src/ground.rt:29:1
 returns : tie.Need-returns
 returns c = ap (λ (x : ℕ). eqb x 1) (c .number .ensures)
 

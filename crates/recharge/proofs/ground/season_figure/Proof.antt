@@ -1,25 +1,19 @@
+-- `ground::season_figure` meets its contract: each way out has the season's own figure.
+use mathlib.Core.Path.{sym, _∙_}
 use borrow.Author.Needs.{needs}
+use Rattle.theory.proofs.Cases.{cond-true, cond-false}
 use Rattle.recharge.proofs.ground.season_figure.Statement.{statement}
 use Rattle.recharge.proofs.ground.season_figure.Tie as tie
-use Rattle.recharge.proofs.ground.season_figure.Reads as reads
-use Rattle.recharge.proofs.ground.season_figure.Lts as lts
-use Rattle.recharge.proofs.ground.number.Reads as number-reads
-use mathlib.Core.Path.{sym, _∙_}
-use Rattle.theory.proofs.Cases.{cond-true, cond-false}
 
--- src/ground.rt:49:22
 number-requires : tie.Need-number-requires
 number-requires c κs = search needs
 
--- src/ground.rt:49:9
 returns : tie.Need-returns
 returns c = c .number .ensures ∙ sym (cond-true _ (c .before .if1 .taken) _ _)
 
--- src/ground.rt:51:11
 number-requires-2 : tie.Need-number-requires-2
 number-requires-2 c κs = search needs
 
--- src/ground.rt:44:1
 returns-2 : tie.Need-returns-2
 returns-2 c = c .number2 .ensures ∙ sym (cond-false _ (c .before .if1 .left) _ _)
 

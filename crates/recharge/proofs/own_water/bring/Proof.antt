@@ -1,37 +1,27 @@
-use borrow.Author.Needs.{needs}
-use Rattle.recharge.proofs.own_water.bring.Statement.{statement}
-use Rattle.recharge.proofs.own_water.bring.Tie as tie
-use Rattle.recharge.proofs.own_water.bring.Reads as reads
-use Rattle.recharge.proofs.own_water.bring.Lts as lts
-use Rattle.recharge.proofs.interception.intercepted.Reads as intercepted-reads
-use Rattle.recharge.proofs.quantities.Depth.beyond.Reads as beyond-reads
-use Rattle.recharge.proofs.snow.melt.Reads as melt-reads
+-- `own_water::bring` meets its contract: whether net falls as snow or as rain, the code's steps are the paper's rules 2 to 4 on land.
 use mathlib.Core.Path.{_∙_}
 use native.Mathlib.Omega.{arith}
+use borrow.Author.Needs.{needs}
 use Rattle.paper.specs.Snow.{melt}
 use Rattle.recharge.proofs.OwnWaterLaws.{held-back, snows-water, snows-store, rains-water, rains-store}
+use Rattle.recharge.proofs.own_water.bring.Statement.{statement}
+use Rattle.recharge.proofs.own_water.bring.Tie as tie
 
--- src/own_water.rt:37:9
 intercepted-requires : tie.Need-intercepted-requires
 intercepted-requires c κs = search needs
 
--- src/own_water.rt:38:9
 beyond-requires : tie.Need-beyond-requires
 beyond-requires c κs = search needs
 
--- src/own_water.rt:40:27
 add-t12 : tie.Need-add-t12
 add-t12 c = search needs
 
--- src/own_water.rt:41:13
 melt-requires : tie.Need-melt-requires
 melt-requires c κs = search needs
 
--- src/own_water.rt:45:19
 beyond-requires-2 : tie.Need-beyond-requires-2
 beyond-requires-2 c κs = search needs
 
--- src/own_water.rt:42:9
 returns : tie.Need-returns
 returns c = λ cell f.
     let s = c .before .before .before .before .before in
@@ -45,20 +35,16 @@ returns c = λ cell f.
       snow = c .beyond2 .ensures ∙ snows-store cell _ _ _ _ _ _ f h l e m;
     }
 
--- src/own_water.rt:48:9
 melt-requires-2 : tie.Need-melt-requires-2
 melt-requires-2 c κs = search needs
 
--- src/own_water.rt:51:22
 add-t14 : tie.Need-add-t14
 unfolding melt
 add-t14 c = omega arith
 
--- src/own_water.rt:52:15
 beyond-requires-3 : tie.Need-beyond-requires-3
 beyond-requires-3 c κs = search needs
 
--- src/own_water.rt:31:1
 returns-2 : tie.Need-returns-2
 returns-2 c = λ cell f.
     let s = c .before .before .before .before .before in

@@ -1,34 +1,25 @@
-use borrow.Author.Needs.{needs}
-use Rattle.recharge.proofs.own_water.own_at.Statement.{statement}
-use Rattle.recharge.proofs.own_water.own_at.Tie as tie
-use Rattle.recharge.proofs.own_water.own_at.Reads as reads
-use Rattle.recharge.proofs.own_water.own_at.Lts as lts
-use Rattle.recharge.proofs.ground.is_open.Reads as is-open-reads
-use Rattle.recharge.proofs.ground.season_figure.Reads as season-figure-reads
-use Rattle.recharge.proofs.own_water.bring.Reads as bring-reads
+-- `own_water::own_at` meets its contract: gross precipitation on open water, rain and melt on land.
 use mathlib.Core.Path.{sym, _∙_}
+use borrow.Author.Needs.{needs}
 use Rattle.theory.proofs.Cases.{cond-true, cond-false}
 use Rattle.paper.specs.CellDay.{figureOf, ownOf}
 use Rattle.recharge.specs.Cells.{cellFrom}
+use Rattle.recharge.proofs.own_water.own_at.Statement.{statement}
+use Rattle.recharge.proofs.own_water.own_at.Tie as tie
 
--- src/own_water.rt:60:8
 is-open-requires : tie.Need-is-open-requires
 is-open-requires c κs = search needs
 
--- src/own_water.rt:61:9
 returns : tie.Need-returns
 unfolding ownOf cellFrom
 returns c = λ water way. sym (cond-true _ (sym (c .before .before .is-open .ensures) ∙ c .before .if1 .taken) _ _)
 
--- src/own_water.rt:63:9
 season-figure-requires : tie.Need-season-figure-requires
 season-figure-requires c κs = search needs
 
--- src/own_water.rt:64:5
 bring-requires : tie.Need-bring-requires
 bring-requires c κs = search needs
 
--- src/own_water.rt:56:1
 returns-2 : tie.Need-returns-2
 unfolding ownOf cellFrom figureOf
 returns-2 c = λ water way.

@@ -1,14 +1,9 @@
-use Rattle.recharge.proofs.rule_codes.curve_numbers.Statement.{statement}
-use Rattle.recharge.proofs.rule_codes.curve_numbers.Tie as tie
-use Rattle.recharge.proofs.rule_codes.curve_numbers.Reads as reads
-use Rattle.recharge.proofs.rule_codes.curve_numbers.Lts as lts
-use Rattle.recharge.proofs.curve_numbers.in_condition.Reads as in-condition-reads
-use Rattle.recharge.proofs.ground.table_number.Reads as table-number-reads
+-- `rule_codes::curve_numbers` meets its contract: the slots passed have their curve number, which is at most 100, and there are at most 256 slots.
 use mathlib.Core.Path.{_≡_, _∙_, ap, sym, subst}
 use Prim.Native.Nat.{ℕ, _*_, _/_, _≤_, _<_, _-_}
 use native.Mathlib.Omega.{arith}
-use borrow.Author.Needs.{needs}
 use lib.ListN.{length}
+use borrow.Author.Needs.{needs}
 use Rattle.theory.specs.Lists.{madeOver}
 use Rattle.theory.proofs.ListLaws.{over-none}
 use Rattle.paper.specs.Covers.{entries}
@@ -19,6 +14,8 @@ use Rattle.recharge.specs.RuleCodes.{numberAt}
 use Rattle.recharge.proofs.CoverLaws.{count-limit}
 use Rattle.recharge.proofs.SlotNumbers.{number-least, number-most, slot-number}
 use Rattle.recharge.proofs.LoopLaws.{wrote}
+use Rattle.recharge.proofs.rule_codes.curve_numbers.Statement.{statement}
+use Rattle.recharge.proofs.rule_codes.curve_numbers.Tie as tie
 
 abbrev Inv-loop : tie.InvT-loop
 Inv-loop condition covers numbers₀ count slot₀ numbers slot =
@@ -51,54 +48,43 @@ end : (c : tie.After-loop Inv-loop μ-loop) → c .before .loop .slot ≡ 4 * en
 unfolding entries
 end c = omega arith
 
--- src/rule_codes.rt:26:17
 mul-count : tie.Need-mul-count Inv-loop μ-loop
 mul-count c = search needs
 
--- src/rule_codes.rt:28:5
 loop-holds : tie.Need-loop-holds Inv-loop μ-loop
 loop-holds c = (search needs, search needs, sym (over-none _ _))
 
--- src/rule_codes.rt:29:46
 table-number-requires : tie.Need-table-number-requires Inv-loop μ-loop
 unfolding entries
 table-number-requires c κs = search needs
 
--- src/rule_codes.rt:29:13
 in-condition-requires : tie.Need-in-condition-requires Inv-loop μ-loop
 unfolding entries
 in-condition-requires c κs = let p = c .before .before .before .before .pre .0 in
     let h = c .before .loop-test .taken in
     rw (c .table-number .ensures) (number-least _ p _ (omega arith), number-most _ p _ (omega arith))
 
--- src/rule_codes.rt:30:25
 cast-numbers : tie.Need-cast-numbers Inv-loop μ-loop
 cast-numbers c = omega (arith, found c, slot-small c .most)
 
--- src/rule_codes.rt:30:9
 mul-numbers : tie.Need-mul-numbers Inv-loop μ-loop
 mul-numbers c = search needs
 
--- src/rule_codes.rt:30:9
 element-write-numbers : tie.Need-element-write-numbers Inv-loop μ-loop
 unfolding entries
 element-write-numbers c = omega (arith, count-limit _ (c .before .before .before .before .before .before .pre .0))
 
--- src/rule_codes.rt:31:9
 add-slot : tie.Need-add-slot Inv-loop μ-loop
 add-slot c = search needs
 
--- src/rule_codes.rt:28:5
 loop-less : tie.Need-loop-less Inv-loop μ-loop
 loop-less c = search needs
 
--- src/rule_codes.rt:28:5
 loop-again : tie.Need-loop-again Inv-loop μ-loop
 loop-again c = let s = c .before .before .before .before .before .before in
     let inv = c .before .before .before .before .loop .inv in
     (search needs, search needs, wrote _ _ _ _ _ (inv .2) (found c) (slot-inside c))
 
--- src/rule_codes.rt:22:1
 returns : tie.Need-returns Inv-loop μ-loop
 returns c = let s = c .before .before .before in
     subst (λ (k : ℕ). c .before .loop .numbers ≡ madeOver k (numberAt (conditionIn (s .args .condition)) (s .args .covers .now)) (s .args .numbers .now)) (end c) (c .before .loop .inv .2)

@@ -1,16 +1,10 @@
-use Rattle.recharge.proofs.rule_codes.rule_codes.Statement.{statement}
-use Rattle.recharge.proofs.rule_codes.rule_codes.Tie as tie
-use Rattle.recharge.proofs.rule_codes.rule_codes.Reads as reads
-use Rattle.recharge.proofs.rule_codes.rule_codes.Lts as lts
-use Rattle.recharge.proofs.ground.is_open.Reads as is-open-reads
-use Rattle.recharge.proofs.lent.place.Reads as place-reads
-use Rattle.recharge.proofs.rule_codes.rule_code.Reads as rule-code-reads
+-- `rule_codes::rule_codes` meets its contract: the cells passed have their rule code, and the others are as they were.
 use mathlib.Core.List.{List}
 use mathlib.Core.Path.{_≡_, sym, subst}
 use Prim.Native.Nat.{ℕ, _≤_, _-_}
 use native.Mathlib.Omega.{arith}
-use borrow.Author.Needs.{needs}
 use lib.ListN.{getD}
+use borrow.Author.Needs.{needs}
 use Rattle.theory.specs.Lists.{madeOver}
 use Rattle.theory.proofs.ListLaws.{over-none}
 use Rattle.paper.specs.CurveNumber.{Condition}
@@ -19,6 +13,8 @@ use Rattle.recharge.specs.RuleCodes.{ruleCode, Numbered}
 use Rattle.recharge.proofs.CoverLaws.{count-limit}
 use Rattle.recharge.proofs.RuleLaws.{code-found}
 use Rattle.recharge.proofs.LoopLaws.{wrote, any-default}
+use Rattle.recharge.proofs.rule_codes.rule_codes.Statement.{statement}
+use Rattle.recharge.proofs.rule_codes.rule_codes.Tie as tie
 
 abbrev Inv-loop : tie.InvT-loop
 Inv-loop covers slots ways numbers n rules₀ i₀ rules i =
@@ -29,66 +25,51 @@ Inv-loop covers slots ways numbers n rules₀ i₀ rules i =
 abbrev μ-loop : tie.MeasureT-loop
 μ-loop covers slots ways numbers n rules₀ i₀ rules i = n - i
 
--- src/rule_codes.rt:59:5
 loop-holds : tie.Need-loop-holds Inv-loop μ-loop
 loop-holds c = (search needs, c .before .pre .cells .few, λ condition water known. sym (over-none _ _))
 
--- src/rule_codes.rt:60:26
 mul-place : tie.Need-mul-place Inv-loop μ-loop
 mul-place c = search needs
 
--- src/rule_codes.rt:60:26
 element-copy-out-place : tie.Need-element-copy-out-place Inv-loop μ-loop
 element-copy-out-place c = search needs
 
--- src/rule_codes.rt:60:13
 place-requires : tie.Need-place-requires Inv-loop μ-loop
 place-requires c κs = search needs
 
--- src/rule_codes.rt:61:30
 is-open-requires : tie.Need-is-open-requires Inv-loop μ-loop
 is-open-requires c κs = let s = c .before .before .before .before .before in
     rw (c .place .ensures) (s .pre .cells .slotted _ (c .before .before .loop-test .taken))
 
--- src/rule_codes.rt:61:53
 mul-rule-code : tie.Need-mul-rule-code Inv-loop μ-loop
 mul-rule-code c = search needs
 
--- src/rule_codes.rt:61:53
 element-copy-out-rule-code : tie.Need-element-copy-out-rule-code Inv-loop μ-loop
 element-copy-out-rule-code c = search needs
 
--- src/rule_codes.rt:61:62
 mul-rule-code-2 : tie.Need-mul-rule-code-2 Inv-loop μ-loop
 mul-rule-code-2 c = let s = c .before .before .before .before .before .before .before in
     omega (arith, c .before .before .place .ensures, s .pre .cells .slotted _ (c .before .before .before .before .loop-test .taken), count-limit _ (s .pre .cells .table))
 
--- src/rule_codes.rt:61:62
 element-copy-out-rule-code-2 : tie.Need-element-copy-out-rule-code-2 Inv-loop μ-loop
 element-copy-out-rule-code-2 c = let s = c .before .before .before .before .before .before .before in
     omega (arith, c .before .before .place .ensures, s .pre .cells .slotted _ (c .before .before .before .before .loop-test .taken), count-limit _ (s .pre .cells .table))
 
--- src/rule_codes.rt:61:20
 rule-code-requires : tie.Need-rule-code-requires Inv-loop μ-loop
 rule-code-requires c κs = search needs
 
--- src/rule_codes.rt:61:9
 mul-rules : tie.Need-mul-rules Inv-loop μ-loop
 mul-rules c = search needs
 
--- src/rule_codes.rt:61:9
 element-write-rules : tie.Need-element-write-rules Inv-loop μ-loop
 element-write-rules c = search needs
 
--- src/rule_codes.rt:62:9
 add-i : tie.Need-add-i Inv-loop μ-loop
 add-i c = search needs
 
--- src/rule_codes.rt:59:5
 loop-less : tie.Need-loop-less Inv-loop μ-loop
 loop-less c = search needs
 
--- src/rule_codes.rt:59:5
 loop-again : tie.Need-loop-again Inv-loop μ-loop
 loop-again c = let s = c .before .before .before .before .before .before .before .before .before in
     let l = c .before .before .before .before .before .before .before .loop in
@@ -104,7 +85,6 @@ loop-again c = let s = c .before .before .before .before .before .before .before
           (rw (s .pre .sized) (omega arith)),
     )
 
--- src/rule_codes.rt:47:1
 returns : tie.Need-returns Inv-loop μ-loop
 returns c = λ condition water known.
     let s = c .before .before .before in

@@ -34,14 +34,14 @@ returns-2 : tie.Need-returns-2
 returns-2 c = ap outcomeIn (sym (serial-bad (setupOf (c .before .before .before .before .before .before .before .before .before .before .before .args .setup) (c .before .before .before .before .before .before .before .before .before .before .before .args .covers .now) (c .before .before .before .before .before .before .before .before .before .before .before .args .direction .now) (c .before .before .before .before .before .before .before .before .before .before .before .args .cover .now) (c .before .before .before .before .before .before .before .before .before .before .before .args .group .now) (c .before .before .before .before .before .before .before .before .before .before .before .args .water .now)) (stateOf (c .before .before .before .before .before .before .before .before .before .before .before .args .soil .now) (c .before .before .before .before .before .before .before .before .before .before .before .args .snow .now) (c .before .before .before .before .before .before .before .before .before .before .before .args .memory) (c .before .before .before .before .before .before .before .before .before .before .before .args .last)) (dayIn (c .before .before .before .before .before .before .before .before .before .before .before .args .day)) (sym (c .before .before .before .day-fits .ensures) ∙ not-false _ (c .before .before .if1 .left)) (sym (c .before .follows .ensures) ∙ not-true _ (c .if2 .taken))))
 
 bad-store-requires : tie.Need-bad-store-requires
-bad-store-requires c κs = 
+bad-store-requires c κs =
     (lent-slots (setupOf (c .before .before .before .before .before .before .before .before .before .before .before .args .setup) (c .before .before .before .before .before .before .before .before .before .before .before .args .covers .now) (c .before .before .before .before .before .before .before .before .before .before .before .args .direction .now) (c .before .before .before .before .before .before .before .before .before .before .before .args .cover .now) (c .before .before .before .before .before .before .before .before .before .before .before .args .group .now) (c .before .before .before .before .before .before .before .before .before .before .before .args .water .now)) (stateOf (c .before .before .before .before .before .before .before .before .before .before .before .args .soil .now) (c .before .before .before .before .before .before .before .before .before .before .before .args .snow .now) (c .before .before .before .before .before .before .before .before .before .before .before .args .memory) (c .before .before .before .before .before .before .before .before .before .before .before .args .last)) _ (c .before .before .before .before .before .before .before .before .before .before .before .pre), c .before .before .before .before .before .before .before .before .before .before .before .pre .soils ∙ sym (waters (setupOf (c .before .before .before .before .before .before .before .before .before .before .before .args .setup) (c .before .before .before .before .before .before .before .before .before .before .before .args .covers .now) (c .before .before .before .before .before .before .before .before .before .before .before .args .direction .now) (c .before .before .before .before .before .before .before .before .before .before .before .args .cover .now) (c .before .before .before .before .before .before .before .before .before .before .before .args .group .now) (c .before .before .before .before .before .before .before .before .before .before .before .args .water .now)) (stateOf (c .before .before .before .before .before .before .before .before .before .before .before .args .soil .now) (c .before .before .before .before .before .before .before .before .before .before .before .args .snow .now) (c .before .before .before .before .before .before .before .before .before .before .before .args .memory) (c .before .before .before .before .before .before .before .before .before .before .before .args .last)) _ (c .before .before .before .before .before .before .before .before .before .before .before .pre)), c .before .before .before .before .before .before .before .before .before .before .before .pre .snows ∙ sym (waters (setupOf (c .before .before .before .before .before .before .before .before .before .before .before .args .setup) (c .before .before .before .before .before .before .before .before .before .before .before .args .covers .now) (c .before .before .before .before .before .before .before .before .before .before .before .args .direction .now) (c .before .before .before .before .before .before .before .before .before .before .before .args .cover .now) (c .before .before .before .before .before .before .before .before .before .before .before .args .group .now) (c .before .before .before .before .before .before .before .before .before .before .before .args .water .now)) (stateOf (c .before .before .before .before .before .before .before .before .before .before .before .args .soil .now) (c .before .before .before .before .before .before .before .before .before .before .before .args .snow .now) (c .before .before .before .before .before .before .before .before .before .before .before .args .memory) (c .before .before .before .before .before .before .before .before .before .before .before .args .last)) _ (c .before .before .before .before .before .before .before .before .before .before .before .pre)))
 
 enum-known-store : tie.Need-enum-known-store
 enum-known-store c = search needs
 
 returns-3 : tie.Need-returns-3
-returns-3 c = 
+returns-3 c =
     ap outcomeIn (sym (store-bad (setupOf (c .before .before .before .before .before .before .before .before .before .before .before .before .before .before .before .args .setup) (c .before .before .before .before .before .before .before .before .before .before .before .before .before .before .before .args .covers .now) (c .before .before .before .before .before .before .before .before .before .before .before .before .before .before .before .args .direction .now) (c .before .before .before .before .before .before .before .before .before .before .before .before .before .before .before .args .cover .now) (c .before .before .before .before .before .before .before .before .before .before .before .before .before .before .before .args .group .now) (c .before .before .before .before .before .before .before .before .before .before .before .before .before .before .before .args .water .now)) (stateOf (c .before .before .before .before .before .before .before .before .before .before .before .before .before .before .before .args .soil .now) (c .before .before .before .before .before .before .before .before .before .before .before .before .before .before .before .args .snow .now) (c .before .before .before .before .before .before .before .before .before .before .before .before .before .before .before .args .memory) (c .before .before .before .before .before .before .before .before .before .before .before .before .before .before .before .args .last)) (dayIn (c .before .before .before .before .before .before .before .before .before .before .before .before .before .before .before .args .day)) (sym (c .before .before .before .before .before .before .before .day-fits .ensures) ∙ not-false _ (c .before .before .before .before .before .before .if1 .left)) (sym (c .before .before .before .before .before .follows .ensures) ∙ not-false _ (c .before .before .before .before .if2 .left)) _
     (sym (stores-found (setupOf (c .before .before .before .before .before .before .before .before .before .before .before .before .before .before .before .args .setup) (c .before .before .before .before .before .before .before .before .before .before .before .before .before .before .before .args .covers .now) (c .before .before .before .before .before .before .before .before .before .before .before .before .before .before .before .args .direction .now) (c .before .before .before .before .before .before .before .before .before .before .before .before .before .before .before .args .cover .now) (c .before .before .before .before .before .before .before .before .before .before .before .before .before .before .before .args .group .now) (c .before .before .before .before .before .before .before .before .before .before .before .before .before .before .before .args .water .now)) (stateOf (c .before .before .before .before .before .before .before .before .before .before .before .before .before .before .before .args .soil .now) (c .before .before .before .before .before .before .before .before .before .before .before .before .before .before .before .args .snow .now) (c .before .before .before .before .before .before .before .before .before .before .before .before .before .before .before .args .memory) (c .before .before .before .before .before .before .before .before .before .before .before .before .before .before .before .args .last)) _ (c .before .before .before .before .before .before .before .before .before .before .before .before .before .before .before .pre)) ∙ found-at _ _ (sym (c .before .store .given .1) ∙ c .before .before .before .bad-store .ensures))))
 
@@ -52,7 +52,7 @@ memory-fits-requires : tie.Need-memory-fits-requires
 memory-fits-requires c κs = search needs
 
 returns-4 : tie.Need-returns-4
-returns-4 c = 
+returns-4 c =
     ap Outcome.StateOutside (waters (setupOf (c .before .before .before .before .before .before .before .before .before .before .before .before .before .before .before .before .args .setup) (c .before .before .before .before .before .before .before .before .before .before .before .before .before .before .before .before .args .covers .now) (c .before .before .before .before .before .before .before .before .before .before .before .before .before .before .before .before .args .direction .now) (c .before .before .before .before .before .before .before .before .before .before .before .before .before .before .before .before .args .cover .now) (c .before .before .before .before .before .before .before .before .before .before .before .before .before .before .before .before .args .group .now) (c .before .before .before .before .before .before .before .before .before .before .before .before .before .before .before .before .args .water .now)) (stateOf (c .before .before .before .before .before .before .before .before .before .before .before .before .before .before .before .before .args .soil .now) (c .before .before .before .before .before .before .before .before .before .before .before .before .before .before .before .before .args .snow .now) (c .before .before .before .before .before .before .before .before .before .before .before .before .before .before .before .before .args .memory) (c .before .before .before .before .before .before .before .before .before .before .before .before .before .before .before .before .args .last)) _ (c .before .before .before .before .before .before .before .before .before .before .before .before .before .before .before .before .pre))
     ∙ ap outcomeIn (sym (memory-bad (setupOf (c .before .before .before .before .before .before .before .before .before .before .before .before .before .before .before .before .args .setup) (c .before .before .before .before .before .before .before .before .before .before .before .before .before .before .before .before .args .covers .now) (c .before .before .before .before .before .before .before .before .before .before .before .before .before .before .before .before .args .direction .now) (c .before .before .before .before .before .before .before .before .before .before .before .before .before .before .before .before .args .cover .now) (c .before .before .before .before .before .before .before .before .before .before .before .before .before .before .before .before .args .group .now) (c .before .before .before .before .before .before .before .before .before .before .before .before .before .before .before .before .args .water .now)) (stateOf (c .before .before .before .before .before .before .before .before .before .before .before .before .before .before .before .before .args .soil .now) (c .before .before .before .before .before .before .before .before .before .before .before .before .before .before .before .before .args .snow .now) (c .before .before .before .before .before .before .before .before .before .before .before .before .before .before .before .before .args .memory) (c .before .before .before .before .before .before .before .before .before .before .before .before .before .before .before .before .args .last)) (dayIn (c .before .before .before .before .before .before .before .before .before .before .before .before .before .before .before .before .args .day)) (sym (c .before .before .before .before .before .before .before .before .day-fits .ensures) ∙ not-false _ (c .before .before .before .before .before .before .before .if1 .left)) (sym (c .before .before .before .before .before .before .follows .ensures) ∙ not-false _ (c .before .before .before .before .before .if2 .left))
     (sym (stores-found (setupOf (c .before .before .before .before .before .before .before .before .before .before .before .before .before .before .before .before .args .setup) (c .before .before .before .before .before .before .before .before .before .before .before .before .before .before .before .before .args .covers .now) (c .before .before .before .before .before .before .before .before .before .before .before .before .before .before .before .before .args .direction .now) (c .before .before .before .before .before .before .before .before .before .before .before .before .before .before .before .before .args .cover .now) (c .before .before .before .before .before .before .before .before .before .before .before .before .before .before .before .before .args .group .now) (c .before .before .before .before .before .before .before .before .before .before .before .before .before .before .before .before .args .water .now)) (stateOf (c .before .before .before .before .before .before .before .before .before .before .before .before .before .before .before .before .args .soil .now) (c .before .before .before .before .before .before .before .before .before .before .before .before .before .before .before .before .args .snow .now) (c .before .before .before .before .before .before .before .before .before .before .before .before .before .before .before .before .args .memory) (c .before .before .before .before .before .before .before .before .before .before .before .before .before .before .before .before .args .last)) _ (c .before .before .before .before .before .before .before .before .before .before .before .before .before .before .before .before .pre)) ∙ found-no _ (sym (c .before .before .enum-told .given .1) ∙ c .before .before .before .before .bad-store .ensures))
@@ -62,7 +62,7 @@ last-fits-requires : tie.Need-last-fits-requires
 last-fits-requires c κs = search needs
 
 returns-5 : tie.Need-returns-5
-returns-5 c = 
+returns-5 c =
     ap Outcome.StateOutside (waters (setupOf (c .before .before .before .before .before .before .before .before .before .before .before .before .before .before .before .before .before .before .args .setup) (c .before .before .before .before .before .before .before .before .before .before .before .before .before .before .before .before .before .before .args .covers .now) (c .before .before .before .before .before .before .before .before .before .before .before .before .before .before .before .before .before .before .args .direction .now) (c .before .before .before .before .before .before .before .before .before .before .before .before .before .before .before .before .before .before .args .cover .now) (c .before .before .before .before .before .before .before .before .before .before .before .before .before .before .before .before .before .before .args .group .now) (c .before .before .before .before .before .before .before .before .before .before .before .before .before .before .before .before .before .before .args .water .now)) (stateOf (c .before .before .before .before .before .before .before .before .before .before .before .before .before .before .before .before .before .before .args .soil .now) (c .before .before .before .before .before .before .before .before .before .before .before .before .before .before .before .before .before .before .args .snow .now) (c .before .before .before .before .before .before .before .before .before .before .before .before .before .before .before .before .before .before .args .memory) (c .before .before .before .before .before .before .before .before .before .before .before .before .before .before .before .before .before .before .args .last)) _ (c .before .before .before .before .before .before .before .before .before .before .before .before .before .before .before .before .before .before .pre))
     ∙ ap outcomeIn (sym (memory-bad (setupOf (c .before .before .before .before .before .before .before .before .before .before .before .before .before .before .before .before .before .before .args .setup) (c .before .before .before .before .before .before .before .before .before .before .before .before .before .before .before .before .before .before .args .covers .now) (c .before .before .before .before .before .before .before .before .before .before .before .before .before .before .before .before .before .before .args .direction .now) (c .before .before .before .before .before .before .before .before .before .before .before .before .before .before .before .before .before .before .args .cover .now) (c .before .before .before .before .before .before .before .before .before .before .before .before .before .before .before .before .before .before .args .group .now) (c .before .before .before .before .before .before .before .before .before .before .before .before .before .before .before .before .before .before .args .water .now)) (stateOf (c .before .before .before .before .before .before .before .before .before .before .before .before .before .before .before .before .before .before .args .soil .now) (c .before .before .before .before .before .before .before .before .before .before .before .before .before .before .before .before .before .before .args .snow .now) (c .before .before .before .before .before .before .before .before .before .before .before .before .before .before .before .before .before .before .args .memory) (c .before .before .before .before .before .before .before .before .before .before .before .before .before .before .before .before .before .before .args .last)) (dayIn (c .before .before .before .before .before .before .before .before .before .before .before .before .before .before .before .before .before .before .args .day)) (sym (c .before .before .before .before .before .before .before .before .before .before .day-fits .ensures) ∙ not-false _ (c .before .before .before .before .before .before .before .before .before .if1 .left)) (sym (c .before .before .before .before .before .before .before .before .follows .ensures) ∙ not-false _ (c .before .before .before .before .before .before .before .if2 .left))
     (sym (stores-found (setupOf (c .before .before .before .before .before .before .before .before .before .before .before .before .before .before .before .before .before .before .args .setup) (c .before .before .before .before .before .before .before .before .before .before .before .before .before .before .before .before .before .before .args .covers .now) (c .before .before .before .before .before .before .before .before .before .before .before .before .before .before .before .before .before .before .args .direction .now) (c .before .before .before .before .before .before .before .before .before .before .before .before .before .before .before .before .before .before .args .cover .now) (c .before .before .before .before .before .before .before .before .before .before .before .before .before .before .before .before .before .before .args .group .now) (c .before .before .before .before .before .before .before .before .before .before .before .before .before .before .before .before .before .before .args .water .now)) (stateOf (c .before .before .before .before .before .before .before .before .before .before .before .before .before .before .before .before .before .before .args .soil .now) (c .before .before .before .before .before .before .before .before .before .before .before .before .before .before .before .before .before .before .args .snow .now) (c .before .before .before .before .before .before .before .before .before .before .before .before .before .before .before .before .before .before .args .memory) (c .before .before .before .before .before .before .before .before .before .before .before .before .before .before .before .before .before .before .args .last)) _ (c .before .before .before .before .before .before .before .before .before .before .before .before .before .before .before .before .before .before .pre)) ∙ found-no _ (sym (c .before .before .before .before .enum-told .given .1) ∙ c .before .before .before .before .before .before .bad-store .ensures))
@@ -73,7 +73,7 @@ today-of-requires c κs = ((sym (c .before .before .before .before .before .befo
 
 too-deep-requires : tie.Need-too-deep-requires
 unfolding today
-too-deep-requires c κs = 
+too-deep-requires c κs =
     (lent-slots (setupOf (c .before .before .before .before .before .before .before .before .before .before .before .before .before .before .before .before .before .before .before .args .setup) (c .before .before .before .before .before .before .before .before .before .before .before .before .before .before .before .before .before .before .before .args .covers .now) (c .before .before .before .before .before .before .before .before .before .before .before .before .before .before .before .before .before .before .before .args .direction .now) (c .before .before .before .before .before .before .before .before .before .before .before .before .before .before .before .before .before .before .before .args .cover .now) (c .before .before .before .before .before .before .before .before .before .before .before .before .before .before .before .before .before .before .before .args .group .now) (c .before .before .before .before .before .before .before .before .before .before .before .before .before .before .before .before .before .before .before .args .water .now)) (stateOf (c .before .before .before .before .before .before .before .before .before .before .before .before .before .before .before .before .before .before .before .args .soil .now) (c .before .before .before .before .before .before .before .before .before .before .before .before .before .before .before .before .before .before .before .args .snow .now) (c .before .before .before .before .before .before .before .before .before .before .before .before .before .before .before .before .before .before .before .args .memory) (c .before .before .before .before .before .before .before .before .before .before .before .before .before .before .before .before .before .before .before .args .last)) _ (c .before .before .before .before .before .before .before .before .before .before .before .before .before .before .before .before .before .before .before .pre), c .before .before .before .before .before .before .before .before .before .before .before .before .before .before .before .before .before .before .before .pre .snows ∙ sym (waters (setupOf (c .before .before .before .before .before .before .before .before .before .before .before .before .before .before .before .before .before .before .before .args .setup) (c .before .before .before .before .before .before .before .before .before .before .before .before .before .before .before .before .before .before .before .args .covers .now) (c .before .before .before .before .before .before .before .before .before .before .before .before .before .before .before .before .before .before .before .args .direction .now) (c .before .before .before .before .before .before .before .before .before .before .before .before .before .before .before .before .before .before .before .args .cover .now) (c .before .before .before .before .before .before .before .before .before .before .before .before .before .before .before .before .before .before .before .args .group .now) (c .before .before .before .before .before .before .before .before .before .before .before .before .before .before .before .before .before .before .before .args .water .now)) (stateOf (c .before .before .before .before .before .before .before .before .before .before .before .before .before .before .before .before .before .before .before .args .soil .now) (c .before .before .before .before .before .before .before .before .before .before .before .before .before .before .before .before .before .before .before .args .snow .now) (c .before .before .before .before .before .before .before .before .before .before .before .before .before .before .before .before .before .before .before .args .memory) (c .before .before .before .before .before .before .before .before .before .before .before .before .before .before .before .before .before .before .before .args .last)) _ (c .before .before .before .before .before .before .before .before .before .before .before .before .before .before .before .before .before .before .before .pre)), le-trans (le-of-eq (ap (λ (t : Today). t .gross) (c .today-of .ensures))) (day-known (dayIn (c .before .before .before .before .before .before .before .before .before .before .before .before .before .before .before .before .before .before .before .args .day)) (sym (c .before .before .before .before .before .before .before .before .before .before .before .day-fits .ensures) ∙ not-false _ (c .before .before .before .before .before .before .before .before .before .before .if1 .left)) .gross))
 
 enum-known-deep : tie.Need-enum-known-deep
@@ -81,7 +81,7 @@ enum-known-deep c = search needs
 
 returns-6 : tie.Need-returns-6
 unfolding today growing
-returns-6 c = 
+returns-6 c =
     ap outcomeIn (sym (snow-bad (setupOf (c .before .before .before .before .before .before .before .before .before .before .before .before .before .before .before .before .before .before .before .before .before .before .before .args .setup) (c .before .before .before .before .before .before .before .before .before .before .before .before .before .before .before .before .before .before .before .before .before .before .before .args .covers .now) (c .before .before .before .before .before .before .before .before .before .before .before .before .before .before .before .before .before .before .before .before .before .before .before .args .direction .now) (c .before .before .before .before .before .before .before .before .before .before .before .before .before .before .before .before .before .before .before .before .before .before .before .args .cover .now) (c .before .before .before .before .before .before .before .before .before .before .before .before .before .before .before .before .before .before .before .before .before .before .before .args .group .now) (c .before .before .before .before .before .before .before .before .before .before .before .before .before .before .before .before .before .before .before .before .before .before .before .args .water .now)) (stateOf (c .before .before .before .before .before .before .before .before .before .before .before .before .before .before .before .before .before .before .before .before .before .before .before .args .soil .now) (c .before .before .before .before .before .before .before .before .before .before .before .before .before .before .before .before .before .before .before .before .before .before .before .args .snow .now) (c .before .before .before .before .before .before .before .before .before .before .before .before .before .before .before .before .before .before .before .before .before .before .before .args .memory) (c .before .before .before .before .before .before .before .before .before .before .before .before .before .before .before .before .before .before .before .before .before .before .before .args .last)) (dayIn (c .before .before .before .before .before .before .before .before .before .before .before .before .before .before .before .before .before .before .before .before .before .before .before .args .day)) (sym (c .before .before .before .before .before .before .before .before .before .before .before .before .before .before .before .day-fits .ensures) ∙ not-false _ (c .before .before .before .before .before .before .before .before .before .before .before .before .before .before .if1 .left)) (sym (c .before .before .before .before .before .before .before .before .before .before .before .before .before .follows .ensures) ∙ not-false _ (c .before .before .before .before .before .before .before .before .before .before .before .before .if2 .left))
     (sym (stores-found (setupOf (c .before .before .before .before .before .before .before .before .before .before .before .before .before .before .before .before .before .before .before .before .before .before .before .args .setup) (c .before .before .before .before .before .before .before .before .before .before .before .before .before .before .before .before .before .before .before .before .before .before .before .args .covers .now) (c .before .before .before .before .before .before .before .before .before .before .before .before .before .before .before .before .before .before .before .before .before .before .before .args .direction .now) (c .before .before .before .before .before .before .before .before .before .before .before .before .before .before .before .before .before .before .before .before .before .before .before .args .cover .now) (c .before .before .before .before .before .before .before .before .before .before .before .before .before .before .before .before .before .before .before .before .before .before .before .args .group .now) (c .before .before .before .before .before .before .before .before .before .before .before .before .before .before .before .before .before .before .before .before .before .before .before .args .water .now)) (stateOf (c .before .before .before .before .before .before .before .before .before .before .before .before .before .before .before .before .before .before .before .before .before .before .before .args .soil .now) (c .before .before .before .before .before .before .before .before .before .before .before .before .before .before .before .before .before .before .before .before .before .before .before .args .snow .now) (c .before .before .before .before .before .before .before .before .before .before .before .before .before .before .before .before .before .before .before .before .before .before .before .args .memory) (c .before .before .before .before .before .before .before .before .before .before .before .before .before .before .before .before .before .before .before .before .before .before .before .args .last)) _ (c .before .before .before .before .before .before .before .before .before .before .before .before .before .before .before .before .before .before .before .before .before .before .before .pre)) ∙ found-no _ (sym (c .before .before .before .before .before .before .before .before .before .enum-told .given .1) ∙ c .before .before .before .before .before .before .before .before .before .before .before .bad-store .ensures))
     (and-both _ _ (sym (c .before .before .before .before .before .before .before .before .memory-fits .ensures) ∙ not-false _ (c .before .before .before .before .before .before .before .if3 .left)) (sym (c .before .before .before .before .before .before .last-fits .ensures) ∙ not-false _ (c .before .before .before .before .before .if4 .left))) _
@@ -92,7 +92,7 @@ enum-told-2 c = search needs
 
 returns-7 : tie.Need-returns-7
 unfolding today growing
-returns-7 c = 
+returns-7 c =
     ap outcomeIn (sym (day-good (setupOf (c .before .before .before .before .before .before .before .before .before .before .before .before .before .before .before .before .before .before .before .before .before .before .args .setup) (c .before .before .before .before .before .before .before .before .before .before .before .before .before .before .before .before .before .before .before .before .before .before .args .covers .now) (c .before .before .before .before .before .before .before .before .before .before .before .before .before .before .before .before .before .before .before .before .before .before .args .direction .now) (c .before .before .before .before .before .before .before .before .before .before .before .before .before .before .before .before .before .before .before .before .before .before .args .cover .now) (c .before .before .before .before .before .before .before .before .before .before .before .before .before .before .before .before .before .before .before .before .before .before .args .group .now) (c .before .before .before .before .before .before .before .before .before .before .before .before .before .before .before .before .before .before .before .before .before .before .args .water .now)) (stateOf (c .before .before .before .before .before .before .before .before .before .before .before .before .before .before .before .before .before .before .before .before .before .before .args .soil .now) (c .before .before .before .before .before .before .before .before .before .before .before .before .before .before .before .before .before .before .before .before .before .before .args .snow .now) (c .before .before .before .before .before .before .before .before .before .before .before .before .before .before .before .before .before .before .before .before .before .before .args .memory) (c .before .before .before .before .before .before .before .before .before .before .before .before .before .before .before .before .before .before .before .before .before .before .args .last)) (dayIn (c .before .before .before .before .before .before .before .before .before .before .before .before .before .before .before .before .before .before .before .before .before .before .args .day)) (sym (c .before .before .before .before .before .before .before .before .before .before .before .before .before .before .day-fits .ensures) ∙ not-false _ (c .before .before .before .before .before .before .before .before .before .before .before .before .before .if1 .left)) (sym (c .before .before .before .before .before .before .before .before .before .before .before .before .follows .ensures) ∙ not-false _ (c .before .before .before .before .before .before .before .before .before .before .before .if2 .left))
     (sym (stores-found (setupOf (c .before .before .before .before .before .before .before .before .before .before .before .before .before .before .before .before .before .before .before .before .before .before .args .setup) (c .before .before .before .before .before .before .before .before .before .before .before .before .before .before .before .before .before .before .before .before .before .before .args .covers .now) (c .before .before .before .before .before .before .before .before .before .before .before .before .before .before .before .before .before .before .before .before .before .before .args .direction .now) (c .before .before .before .before .before .before .before .before .before .before .before .before .before .before .before .before .before .before .before .before .before .before .args .cover .now) (c .before .before .before .before .before .before .before .before .before .before .before .before .before .before .before .before .before .before .before .before .before .before .args .group .now) (c .before .before .before .before .before .before .before .before .before .before .before .before .before .before .before .before .before .before .before .before .before .before .args .water .now)) (stateOf (c .before .before .before .before .before .before .before .before .before .before .before .before .before .before .before .before .before .before .before .before .before .before .args .soil .now) (c .before .before .before .before .before .before .before .before .before .before .before .before .before .before .before .before .before .before .before .before .before .before .args .snow .now) (c .before .before .before .before .before .before .before .before .before .before .before .before .before .before .before .before .before .before .before .before .before .before .args .memory) (c .before .before .before .before .before .before .before .before .before .before .before .before .before .before .before .before .before .before .before .before .before .before .args .last)) _ (c .before .before .before .before .before .before .before .before .before .before .before .before .before .before .before .before .before .before .before .before .before .before .pre)) ∙ found-no _ (sym (c .before .before .before .before .before .before .before .before .enum-told .given .1) ∙ c .before .before .before .before .before .before .before .before .before .before .bad-store .ensures))
     (and-both _ _ (sym (c .before .before .before .before .before .before .before .memory-fits .ensures) ∙ not-false _ (c .before .before .before .before .before .before .if3 .left)) (sym (c .before .before .before .before .before .last-fits .ensures) ∙ not-false _ (c .before .before .before .before .if4 .left)))

@@ -1,0 +1,30 @@
+-- A day's answer, with the lent slices as it left them, as the paper's outcome; and a fresh state's.
+use mathlib.Core.List.{List}
+use Prim.Native.Nat.{ℕ}
+use Rattle.paper.specs.Day as paper
+use Rattle.recharge.specs.Calls.{stateOf, verdictAs}
+use Rattle.recharge.specs.Settle.{totalsIn}
+use Rattle.recharge.specs.declared.answers.Answer.{Answer}
+use Rattle.recharge.specs.declared.answers.Start.{Start}
+
+abbrev pub resultsOf : List ℕ → List ℕ → List ℕ → List ℕ → List ℕ → paper.Results
+resultsOf intercepted outflow evapotranspired recharged rejected =
+    record {
+      intercepted = intercepted;
+      outflow = outflow;
+      evapotranspired = evapotranspired;
+      recharged = recharged;
+      rejected = rejected;
+    }
+
+abbrev pub answered : Answer → List ℕ → List ℕ → List ℕ → List ℕ → List ℕ → List ℕ → List ℕ → paper.Outcome
+answered a soil snow intercepted outflow evapotranspired recharged rejected =
+    record {
+      verdict = verdictAs (a .outcome);
+      results = resultsOf intercepted outflow evapotranspired recharged rejected;
+      totals = totalsIn (a .totals);
+      state = stateOf soil snow (a .memory) (a .last);
+    }
+
+abbrev pub started : Start → List ℕ → List ℕ → paper.Fresh
+started a soil snow = record { verdict = verdictAs (a .outcome); state = stateOf soil snow (a .memory) (a .last) }
