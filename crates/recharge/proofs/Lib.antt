@@ -5,6 +5,7 @@ pub mod CoverLaws
 pub mod DayTestLaws
 pub mod DirectionLaws
 pub mod FigureLaws
+pub mod FreshLaws
 pub mod LimitLaws
 pub mod LoopLaws
 pub mod LossRoom

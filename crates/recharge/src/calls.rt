@@ -1,17 +1,29 @@
 // The office's three calls.
 ghost use mathlib.Core.Path.{_≡_};
-ghost use Rattle.paper.specs.Day.{checkOf, dayOf, noTotals};
-ghost use Rattle.recharge.specs.Calls.{setupOf, stateOf, dayIn, outcomeIn};
+ghost use Rattle.paper.specs.Day.{checkOf, freshOf, dayOf, noTotals};
+ghost use Rattle.paper.specs.State.{noRain, none};
+ghost use mathlib.Core.Bool.{cond};
+ghost use Prim.Native.Nat.{_≤_};
+ghost use lib.ListN.{length};
+ghost use Rattle.recharge.specs.Cells.{SlotsFit};
+ghost use Rattle.recharge.specs.Quantities.{memoryOf, mostCapacity};
+ghost use Rattle.recharge.specs.Calls.{setupOf, stateOf, lastOf, dayIn, outcomeIn};
 ghost use Rattle.recharge.specs.Settle.{totalsIn};
-ghost use Rattle.recharge.specs.Answers.{resultsOf, answered};
+ghost use Rattle.recharge.specs.Answers.{resultsOf, answered, started, Filled};
 use crate::answers::Answer;
 use crate::answers::DayRecord;
 use crate::answers::Last;
 use crate::answers::Outcome;
 use crate::answers::Setup;
+use crate::answers::Start;
+use crate::ground::ground_at;
+use crate::lent::place;
+use crate::lent::wide;
 use crate::limits::count;
 use crate::limits::grid_fits;
 use crate::limits::setup_each;
+use crate::limits::stores_each;
+use crate::quantities::Depth;
 use crate::quantities::Memory;
 use crate::run::run;
 use crate::settle::none_yet;
@@ -138,4 +150,92 @@ pub fn day(
         memory: memory.next(day.gross),
         last: Last::Serial(day.serial),
     }
+}
+
+// No rain yet, and no serial.
+fn begin(outcome: Outcome) -> Start
+    ensures { λ r. ⌜ (r .outcome ≡ outcome) × (memoryOf (r .memory) ≡ noRain) × (lastOf (r .last) ≡ none) ⌝ }
+{
+    let memory = Memory {
+        oldest: Depth(0),
+        fourth: Depth(0),
+        third: Depth(0),
+        second: Depth(0),
+        yesterday: Depth(0),
+    };
+    Start {
+        outcome,
+        memory,
+        last: Last::Never,
+    }
+}
+
+// A cell's soil when it is full.
+fn full(open_water: bool, capacity: Depth) -> u32
+    requires { ⌜ capacity .0 ≤ mostCapacity ⌝ }
+    ensures { λ r. ⌜ r ≡ cond open_water 0 (capacity .0) ⌝ }
+{
+    if open_water {
+        return 0;
+    }
+    let units = capacity.0;
+    units as u32
+}
+
+// Fills a fresh state's stores: soil full, none on open water, and no snow.
+fn fill(covers: &[u32], slots: &[u32; 4096], water: &[u32], soil: &mut [u32], snow: &mut [u32])
+    requires { ⌜ SlotsFit (now covers) (length (now water)) (now slots) (now water) × (length (now soil) ≡ length (now water)) × (length (now snow) ≡ length (now water)) ⌝ }
+    ensures { λ r. ⌜ Filled (now (covers .entry)) (now (slots .entry)) (now (water .entry)) (now (soil .exit)) (now (snow .exit)) ⌝ }
+{
+    let mut i = 0;
+    while i < water.len() {
+        let ground = ground_at(covers, place(slots[i]), wide(water[i]), true);
+        soil[i] = full(ground.open_water, ground.capacity);
+        snow[i] = 0;
+        i += 1;
+    }
+}
+
+// A fresh state: tests 1 to 6, then soil full (0 on open water), snow 0, five zeros and no serial.
+pub fn fresh(
+    setup: Setup,
+    covers: &[u32],
+    direction: &[u32],
+    cover: &[u32],
+    group: &[u32],
+    water: &[u32],
+    soil: &mut [u32],
+    snow: &mut [u32],
+) -> Start
+    ensures { λ r. ⌜ started r (now (soil .exit)) (now (snow .exit)) ≡ freshOf (setupOf setup (now (covers .entry)) (now (direction .entry)) (now (cover .entry)) (now (group .entry)) (now (water .entry))) (now (soil .entry)) (now (snow .entry)) ⌝ }
+{
+    if !grid_fits(setup) {
+        return begin(Outcome::GridSize);
+    }
+    let n = count(setup);
+    if !setup_each(n, direction.len(), cover.len(), group.len(), water.len()) {
+        return begin(Outcome::LentSize);
+    }
+    if !stores_each(n, soil.len(), snow.len()) {
+        return begin(Outcome::LentSize);
+    }
+    let mut slot = [0u32; 4096];
+    let mut way = [4097u32; 4096];
+    let mut turn = [0u32; 4096];
+    let outcome = survey(
+        setup,
+        covers,
+        direction,
+        cover,
+        group,
+        water,
+        &mut slot,
+        &mut way,
+        &mut turn,
+    );
+    let Outcome::Accepted = outcome else {
+        return begin(outcome);
+    };
+    fill(covers, &slot, water, soil, snow);
+    begin(outcome)
 }

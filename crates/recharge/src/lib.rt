@@ -36,6 +36,7 @@ pub use answers::Start;
 pub use answers::Totals;
 pub use calls::check;
 pub use calls::day;
+pub use calls::fresh;
 pub use quantities::CurveNumber;
 pub use quantities::Depth;
 pub use quantities::Memory;

@@ -1,0 +1,105 @@
+-- A fresh state: each cell's soil is full by the ground that its slot finds, and a refused one hands back the lent stores, five zeros and none.
+use mathlib.Core.Path.{_≡_, refl, sym, ap, _∙_}
+use mathlib.Core.Bool.{Bool, true, cond}
+use mathlib.Core.List.{List, [], _∷_, _++_}
+use Prim.Native.Nat.{ℕ, _<_}
+use native.Mathlib.Omega.{arith}
+use lib.ListN.{length, getD}
+use Rattle.theory.specs.Lists.{made, madeOver}
+use Rattle.theory.proofs.ListLaws.{over-length, made-cong}
+use Rattle.paper.specs.Setup.{Setup, Cell, cell, cells, next}
+use Rattle.paper.specs.State.{Memory, Last, none, noRain, mostSoilOf, freshState}
+use Rattle.paper.specs.Setup.{gridFits}
+use Rattle.paper.specs.Refusals.{Refusal, Verdict, accepted, refused, verdict, oneEach, setupLengths, setupTests, mapTests}
+use Rattle.paper.specs.Day.{freshOf, freshAs}
+use Rattle.paper.proofs.SetupLaws.{Charted}
+use borrow.Author.Tests.{eqb-true}
+use Rattle.theory.proofs.Cases.{and-left, and-right}
+use Rattle.recharge.specs.Answers.{Filled}
+use Rattle.recharge.specs.Calls.{refusedAs, outcomeIn, verdictAs}
+use Rattle.recharge.specs.Cells.{cellFrom, SlotsFit}
+use Rattle.recharge.specs.Survey.{Mapped}
+use Rattle.recharge.specs.declared.answers.Outcome.{Outcome}
+use Rattle.recharge.specs.declared.answers.Outcome.the-variants.{Accepted}
+use Rattle.recharge.proofs.CallLaws.{on-the-map}
+use Rattle.recharge.proofs.CellLaws.{cell-is}
+use Rattle.recharge.proofs.MapLaws.{verdict-back, sound-setup, slot-at, slots-fit}
+use Rattle.recharge.specs.Ground.{Stands}
+use Rattle.recharge.specs.declared.ground.Ground.{Ground}
+
+pub filled-is : (c : Cell) (growing : Bool) (g : Ground) (x : ℕ) → Stands c growing g → x ≡ cond (g .«open_water») 0 (g .capacity .0) → x ≡ mostSoilOf c
+unfolding mostSoilOf
+filled-is c growing g x stands e = e ∙ rw (stands .open?, stands .capacity) refl
+
+-- the place to be written is inside
+pub room : (f : ℕ → ℕ) (l before : List ℕ) (i n : ℕ) → l ≡ madeOver i f before → length before ≡ n → i < n → i < length l
+room f l before i n e sized h = rw (e, over-length i f before (omega arith)) (omega arith)
+
+module _ (s : Setup) (soil snow : List ℕ) where
+  abbrev lengths : List ℕ
+  lengths = setupLengths s ++ length soil ∷ length snow ∷ []
+
+  -- what comes back when a fresh state is refused
+  pub refused-fresh : (why : Refusal) (o called : Outcome) (memory : Memory) (last : Last) → verdict (setupTests s lengths) ≡ refused why → o ≡ called
+      → called ≡ refusedAs why → memory ≡ noRain → last ≡ none
+      → record { verdict = verdictAs o; state = record { soil = soil; snow = snow; memory = memory; last = last } } ≡ freshOf s soil snow
+  unfolding freshOf freshAs
+  refused-fresh why o called memory last v same e dry never =
+      (λ k. record {
+        verdict = (ap verdictAs (same ∙ e) ∙ verdict-back (refused why)) k;
+        state = record { soil = soil; snow = snow; memory = dry k; last = never k };
+      })
+      ∙ sym (ap (freshAs s soil snow) v)
+
+  module _ (grid : gridFits s ≡ true) (each : oneEach (cells s) lengths ≡ true) where
+    pub survey-fresh : (o called : Outcome) (memory : Memory) (last : Last) → called ≡ outcomeIn (verdict (mapTests s)) → (called ≡ Accepted → ⊥)
+        → o ≡ called → memory ≡ noRain → last ≡ none
+        → record { verdict = verdictAs o; state = record { soil = soil; snow = snow; memory = memory; last = last } } ≡ freshOf s soil snow
+    survey-fresh o called memory last e not same dry never = go (verdict (mapTests s)) refl
+      where
+        go : (v : Verdict) → verdict (mapTests s) ≡ v
+            → record { verdict = verdictAs o; state = record { soil = soil; snow = snow; memory = memory; last = last } } ≡ freshOf s soil snow
+        go accepted q = absurd (not (e ∙ ap outcomeIn q))
+        go (refused why) q =
+            refused-fresh why o called memory last (on-the-map s lengths grid each ∙ q) same (e ∙ ap outcomeIn q) dry never
+
+    module _ (v : verdict (mapTests s) ≡ accepted) (slots ways order : List ℕ) (m : Mapped s slots ways order) where
+      chart : Charted s
+      chart = sound-setup s lengths grid each v .charted
+
+      waters : length (s .water) ≡ cells s
+      unfolding setupLengths oneEach
+      waters = eqb-true _ _ (search (and-left, and-right))
+
+      pub fill-ask : SlotsFit (s .covers) (length (s .water)) slots (s .water) × (length soil ≡ length (s .water)) × (length snow ≡ length (s .water))
+      unfolding setupLengths oneEach
+      fill-ask = (
+        rw waters (slots-fit s chart slots (m .slots-are) waters),
+        eqb-true _ _ (search (and-left, and-right)) ∙ sym waters,
+        eqb-true _ _ (search (and-left, and-right)) ∙ sym waters,
+      )
+
+      full-at : (i : ℕ) → i < cells s → mostSoilOf (cellFrom (s .covers) (getD slots i 0) (getD (s .water) i 0) 0) ≡ mostSoilOf (cell s i)
+      unfolding mostSoilOf cellFrom
+      full-at i h =
+          ap (λ (k : ℕ). mostSoilOf (cellFrom (s .covers) k (getD (s .water) i 0) (next s i))) (slot-at s chart slots (m .slots-are) waters i h)
+          ∙ ap mostSoilOf (sym (cell-is s chart i h))
+
+      pub accepted-fresh : (o called : Outcome) (memory : Memory) (last : Last) (soil' snow' : List ℕ) → o ≡ called → called ≡ Accepted
+          → memory ≡ noRain → last ≡ none → Filled (s .covers) slots (s .water) soil' snow'
+          → record { verdict = verdictAs o; state = record { soil = soil'; snow = snow'; memory = memory; last = last } } ≡ freshOf s soil snow
+      unfolding freshOf freshAs freshState
+      accepted-fresh o called memory last soil' snow' same passed dry never full =
+          (λ k. record {
+            verdict = verdictAs ((same ∙ passed) k);
+            state =
+                record {
+                  soil =
+                      (full .soils ∙ ap (λ (n : ℕ). made n (λ i. mostSoilOf (cellFrom (s .covers) (getD slots i 0) (getD (s .water) i 0) 0))) waters
+                      ∙ made-cong (cells s) _ _ full-at) k;
+                  snow = (full .snows ∙ ap (λ (n : ℕ). made {A = ℕ} n (λ i. 0)) waters) k;
+                  memory = dry k;
+                  last = never k;
+                };
+          })
+          ∙ sym (ap (freshAs s soil snow) (on-the-map s lengths grid each ∙ v))
