@@ -9,7 +9,7 @@ ghost use Rattle.recharge.specs.Covers.{placeIn, EntriesFit, Indexed};
 use crate::answers::Place;
 use crate::lent::place;
 
-pub fn size_fits(covers: &[u32]) -> bool
+pub(crate) fn size_fits(covers: &[u32]) -> bool
     ensures { λ r. ⌜ r ≡ sizeFits (now (covers .entry)) ⌝ }
 {
     let numbers = covers.len();
@@ -86,7 +86,7 @@ fn entry_fits(covers: &[u32], e: usize) -> bool
 }
 
 // The lowest entry with a fault.
-pub fn bad_entry(covers: &[u32]) -> Place
+pub(crate) fn bad_entry(covers: &[u32]) -> Place
     ensures { λ r. ⌜ r ≡ placeIn (lowest (entries (now (covers .entry))) (λ e. not (entryFits (now (covers .entry)) e))) ⌝ }
 {
     let count = covers.len() / 16;
@@ -101,7 +101,7 @@ pub fn bad_entry(covers: &[u32]) -> Place
 }
 
 // Fills the index by code: one more than the entry.
-pub fn index_codes(covers: &[u32], index: &mut [u32; 256])
+pub(crate) fn index_codes(covers: &[u32], index: &mut [u32; 256])
     requires { ⌜ EntriesFit (now covers) × (now index ≡ replicate 256 0) ⌝ }
     ensures { λ r. ⌜ Indexed (now (covers .entry)) (entries (now (covers .entry))) (now (index .exit)) ⌝ }
 {
