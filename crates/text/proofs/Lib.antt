@@ -1,0 +1,10 @@
+pub mod WordLaws
+pub mod ReaderLaws
+pub mod DigitLaws
+pub mod WritingLaws
+pub mod ExampleLaws
+pub mod FieldLaws
+pub mod SignLaws
+pub mod ScreenLaws
+pub mod LayingLaws
+pub mod PrintedLaws

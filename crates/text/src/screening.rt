@@ -1,0 +1,86 @@
+// The tests of the numbers before anything is run.
+ghost use mathlib.Core.Bool.{_&&_};
+ghost use mathlib.Core.Path.{_≡_};
+ghost use Prim.Native.Nat.{_-_, _*_, _%_};
+ghost use lib.Dec.{leb, eqb};
+ghost use lib.ListN.{length};
+ghost use Rattle.text.specs.Program.{screen as screened};
+
+pub(crate) enum Screened {
+    // A refusal's number and place.
+    Refused(u64, u64),
+    // The count of cells.
+    Ready(usize),
+}
+
+const TEXT: u64 = 11;
+
+// The product of width and height can pass 32 bits, so the height is held to a quotient.
+fn grid_fits(width: u32, height: u32) -> bool
+    ensures { λ r. ⌜ r ≡ (leb 1 width && leb 1 height && leb (width * height) 4096) ⌝ }
+{
+    if width < 1 {
+        return false;
+    }
+    if height < 1 {
+        return false;
+    }
+    height <= 4096 / width
+}
+
+fn covers_fit(count: u32) -> bool
+    ensures { λ r. ⌜ r ≡ (leb 1 count && leb count 64) ⌝ }
+{
+    if count < 1 {
+        return false;
+    }
+    count <= 64
+}
+
+// No number is missing, and the last day is not cut off.
+fn complete(count: usize, needed: usize) -> bool
+    ensures { λ r. ⌜ r ≡ (leb needed count && eqb ((count - needed) % 7) 0) ⌝ }
+{
+    if count < needed {
+        return false;
+    }
+    (count - needed) % 7 == 0
+}
+
+fn wide(count: usize) -> u64
+    ensures { λ r. ⌜ r ≡ count ⌝ }
+{
+    count as u64
+}
+
+fn place(x: u32) -> usize
+    ensures { λ r. ⌜ r ≡ x ⌝ }
+{
+    x as usize
+}
+
+pub(crate) fn screen(numbers: &[u32]) -> Screened
+    ensures { λ r. ⌜ r ≡ screened (now (numbers .entry)) ⌝ }
+{
+    let count = numbers.len();
+    if count < 2 {
+        return Screened::Refused(TEXT, wide(count));
+    }
+    let width = numbers[0];
+    let height = numbers[1];
+    if !grid_fits(width, height) {
+        return Screened::Refused(1, 0);
+    }
+    if count < 5 {
+        return Screened::Refused(TEXT, wide(count));
+    }
+    let covers = numbers[4];
+    if !covers_fit(covers) {
+        return Screened::Refused(3, 0);
+    }
+    let cells = place(width * height);
+    if !complete(count, 5 + 16 * place(covers) + 4 * cells) {
+        return Screened::Refused(TEXT, wide(count));
+    }
+    Screened::Ready(cells)
+}
