@@ -24,19 +24,21 @@ use Rattle.paper.proofs.DayLaws as days
 use Rattle.paper.proofs.FlowLaws.{water-same}
 use Rattle.paper.proofs.SetupLaws.{Charted, to-inside, next-past}
 use Rattle.paper.proofs.SnowLaws.{melt-most}
-use Rattle.recharge.specs.Cells.{cellIn, figuresFrom}
-use Rattle.recharge.specs.Routes.{nextIn}
+use Rattle.survey.specs.Cells.{cellIn}
+use Rattle.recharge.specs.CellDay.{figuresFrom}
+use Rattle.survey.specs.Routes.{nextIn}
 use Rattle.recharge.specs.Settle.{goneIn, totalsIn, totalsBy}
 use Rattle.recharge.specs.Run as runs
-use Rattle.recharge.specs.Survey.{Mapped}
-use Rattle.recharge.specs.Calls.{outcomeIn, verdictAs}
-use Rattle.recharge.specs.declared.answers.Outcome.{Outcome}
-use Rattle.recharge.specs.declared.answers.Outcome.the-variants.{Accepted}
-use Rattle.recharge.specs.declared.answers.Totals.{Totals}
-use Rattle.recharge.proofs.CellLaws.{slot-entry}
-use Rattle.recharge.proofs.LimitLaws.{DayKnown, day-known}
-use Rattle.recharge.proofs.MapLaws.{verdict-back, slot-at, slots-fit, way-at, cell-in}
-use Rattle.recharge.proofs.WayArrays.{ways-in, ways-next}
+use Rattle.survey.specs.Survey.{Mapped}
+use Rattle.records.specs.Calls.{outcomeIn, verdictAs}
+use Rattle.records.specs.declared.answers.Outcome.{Outcome}
+use Rattle.records.specs.declared.answers.Outcome.the-variants.{Accepted}
+use Rattle.records.specs.declared.answers.Totals.{Totals}
+use Rattle.survey.proofs.CellLaws.{slot-entry}
+use Rattle.records.proofs.LimitLaws.{DayKnown, day-known}
+use Rattle.records.proofs.OutcomeLaws.{verdict-back}
+use Rattle.survey.proofs.MapLaws.{slot-at, slots-fit, way-at, cell-in}
+use Rattle.survey.proofs.WayArrays.{ways-in, ways-next}
 
 module _ (s : Setup) (st : State) (r : paper.Results) (d : Day) (slots ways order : List ℕ)
     (ok : days.SoundDay s st r d) (m : Mapped s slots ways order) where

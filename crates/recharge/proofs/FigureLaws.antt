@@ -14,9 +14,8 @@ use Rattle.paper.specs.CurveNumber.{curveNumber}
 use Rattle.paper.specs.CellDay.{Today, Figures, interceptedOf, storeOf, meltOf, passedOf, groundOf, openDay, landDay}
 use Rattle.paper.proofs.SoilLaws.{soil-account}
 use Rattle.paper.proofs.CellDayLaws.{passed-most}
-use Rattle.recharge.specs.Quantities.{mostCapacity, waterLimit}
-use Rattle.recharge.specs.Cells.{figuresFrom}
-use Rattle.recharge.specs.CellDay.{Fit32}
+use Rattle.recharge.specs.Depths.{mostCapacity, waterLimit}
+use Rattle.recharge.specs.CellDay.{figuresFrom, Fit32}
 
 module _ (c : Cell) (t : Today) (soil snow w : ℕ) where
   figures-open : c .open? ≡ true → figuresFrom c t soil snow w ≡ openDay w

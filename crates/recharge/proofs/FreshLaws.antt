@@ -9,21 +9,21 @@ use Rattle.theory.specs.Lists.{made, madeOver}
 use Rattle.theory.proofs.ListLaws.{over-length, made-cong}
 use Rattle.paper.specs.Setup.{Setup, Cell, cell, cells, next}
 use Rattle.paper.specs.State.{Memory, Last, none, noRain, mostSoilOf, freshState}
-use Rattle.paper.specs.Setup.{gridFits}
-use Rattle.paper.specs.Refusals.{Refusal, Verdict, accepted, refused, verdict, oneEach, setupLengths, setupTests, mapTests}
-use Rattle.paper.specs.Day.{freshOf, freshAs}
+use Rattle.paper.specs.Refusals.{Refusal, Verdict, accepted, refused, verdict, oneEach, setupLengths, setupTests}
+use Rattle.paper.specs.Day.{checkOf, freshOf, freshAs}
 use Rattle.paper.proofs.SetupLaws.{Charted}
 use borrow.Author.Tests.{eqb-true}
 use Rattle.theory.proofs.Cases.{and-left, and-right}
 use Rattle.recharge.specs.Answers.{Filled}
-use Rattle.recharge.specs.Calls.{refusedAs, outcomeIn, verdictAs}
-use Rattle.recharge.specs.Cells.{cellFrom, SlotsFit}
-use Rattle.recharge.specs.Survey.{Mapped}
-use Rattle.recharge.specs.declared.answers.Outcome.{Outcome}
-use Rattle.recharge.specs.declared.answers.Outcome.the-variants.{Accepted}
-use Rattle.recharge.proofs.CallLaws.{on-the-map}
-use Rattle.recharge.proofs.CellLaws.{cell-is}
-use Rattle.recharge.proofs.MapLaws.{verdict-back, sound-setup, slot-at, slots-fit}
+use Rattle.records.specs.Calls.{refusedAs, outcomeIn, verdictAs}
+use Rattle.survey.specs.Cells.{cellFrom, SlotsFit}
+use Rattle.survey.specs.Survey.{Mapped}
+use Rattle.records.specs.declared.answers.Outcome.{Outcome}
+use Rattle.records.specs.declared.answers.Outcome.the-variants.{Accepted}
+use Rattle.survey.proofs.CallLaws.{more-fit}
+use Rattle.survey.proofs.CellLaws.{cell-is}
+use Rattle.records.proofs.OutcomeLaws.{verdict-back}
+use Rattle.survey.proofs.MapLaws.{sound-setup, waters-each, slot-at, slots-fit}
 use Rattle.recharge.specs.Ground.{Stands}
 use Rattle.recharge.specs.declared.ground.Ground.{Ground}
 
@@ -51,28 +51,27 @@ module _ (s : Setup) (soil snow : List ℕ) where
       })
       ∙ sym (ap (freshAs s soil snow) v)
 
-  module _ (grid : gridFits s ≡ true) (each : oneEach (cells s) lengths ≡ true) where
-    pub survey-fresh : (o called : Outcome) (memory : Memory) (last : Last) → called ≡ outcomeIn (verdict (mapTests s)) → (called ≡ Accepted → ⊥)
+  module _ (each : oneEach (cells s) (length soil ∷ length snow ∷ []) ≡ true) where
+    pub survey-fresh : (o called : Outcome) (memory : Memory) (last : Last) → called ≡ outcomeIn (checkOf s) → (called ≡ Accepted → ⊥)
         → o ≡ called → memory ≡ noRain → last ≡ none
         → record { verdict = verdictAs o; state = record { soil = soil; snow = snow; memory = memory; last = last } } ≡ freshOf s soil snow
-    survey-fresh o called memory last e not same dry never = go (verdict (mapTests s)) refl
+    survey-fresh o called memory last e not same dry never = go (checkOf s) refl
       where
-        go : (v : Verdict) → verdict (mapTests s) ≡ v
+        go : (v : Verdict) → checkOf s ≡ v
             → record { verdict = verdictAs o; state = record { soil = soil; snow = snow; memory = memory; last = last } } ≡ freshOf s soil snow
         go accepted q = absurd (not (e ∙ ap outcomeIn q))
         go (refused why) q =
-            refused-fresh why o called memory last (on-the-map s lengths grid each ∙ q) same (e ∙ ap outcomeIn q) dry never
+            refused-fresh why o called memory last (more-fit s _ each ∙ q) same (e ∙ ap outcomeIn q) dry never
 
-    module _ (v : verdict (mapTests s) ≡ accepted) (slots ways order : List ℕ) (m : Mapped s slots ways order) where
+    module _ (v : checkOf s ≡ accepted) (slots ways order : List ℕ) (m : Mapped s slots ways order) where
       chart : Charted s
-      chart = sound-setup s lengths grid each v .charted
+      chart = sound-setup s v .charted
 
       waters : length (s .water) ≡ cells s
-      unfolding setupLengths oneEach
-      waters = eqb-true _ _ (search (and-left, and-right))
+      waters = waters-each s v
 
       pub fill-ask : SlotsFit (s .covers) (length (s .water)) slots (s .water) × (length soil ≡ length (s .water)) × (length snow ≡ length (s .water))
-      unfolding setupLengths oneEach
+      unfolding oneEach
       fill-ask = (
         rw waters (slots-fit s chart slots (m .slots-are) waters),
         eqb-true _ _ (search (and-left, and-right)) ∙ sym waters,
@@ -102,4 +101,4 @@ module _ (s : Setup) (soil snow : List ℕ) where
                   last = never k;
                 };
           })
-          ∙ sym (ap (freshAs s soil snow) (on-the-map s lengths grid each ∙ v))
+          ∙ sym (ap (freshAs s soil snow) (more-fit s _ each ∙ v))

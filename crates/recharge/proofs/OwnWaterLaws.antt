@@ -10,7 +10,7 @@ use Rattle.paper.specs.Interception.{intercepted, net}
 use Rattle.paper.specs.Snow.{melt}
 use Rattle.paper.specs.Setup.{Cell}
 use Rattle.paper.specs.CellDay.{Today, figureOf, interceptedOf, netOf, rainOf, storeOf, meltOf, ownOf}
-use Rattle.recharge.specs.Cells.{cellFrom}
+use Rattle.survey.specs.Cells.{cellFrom}
 
 pub held-back : (c : Cell) (t : Today) (figure held : ℕ) → figure ≡ figureOf c t → held ≡ intercepted (t .gross) figure → held ≡ interceptedOf c t
 unfolding interceptedOf

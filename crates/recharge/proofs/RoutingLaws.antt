@@ -21,9 +21,10 @@ use Rattle.theory.proofs.SumLaws.{sum-injection}
 use Rattle.paper.specs.Flow.{arriving, water}
 use Rattle.paper.proofs.FlowLaws.{water-reached, water-most}
 use Rattle.paper.proofs.OutflowLaws.{outflow-most}
-use Rattle.recharge.specs.Routes.{nextIn, ruled, passedBy, reaching, Routable, Routed}
-use Rattle.recharge.proofs.SumsAlong.{sum-support}
-use Rattle.recharge.proofs.WayArrays.{over-at}
+use Rattle.survey.specs.Routes.{nextIn}
+use Rattle.recharge.specs.Routing.{ruled, passedBy, reaching, Routable, Routed}
+use Rattle.theory.proofs.SumsAlong.{sum-support}
+use Rattle.survey.proofs.WayArrays.{over-at}
 
 pub ruled-most : (code w : ℕ) → code ≤ 101 → ruled code w ≤ w
 unfolding ruled

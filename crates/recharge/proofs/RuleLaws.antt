@@ -17,10 +17,10 @@ use Rattle.paper.specs.Outflow.{outflow}
 use Rattle.paper.specs.Setup.{Cell}
 use Rattle.paper.specs.CellDay.{Today, passedOf}
 use Rattle.paper.proofs.CurveNumberLaws.{UpTo100}
-use Rattle.recharge.specs.Covers.{EntriesFit}
-use Rattle.recharge.specs.Cells.{cellFrom}
+use Rattle.survey.specs.Covers.{EntriesFit}
+use Rattle.survey.specs.Cells.{cellFrom}
 use Rattle.recharge.specs.RuleCodes.{ruleCode, numberAt, Numbered}
-use Rattle.recharge.specs.Routes.{ruled}
+use Rattle.recharge.specs.Routing.{ruled}
 use Rattle.recharge.proofs.SlotNumbers.{slot-number}
 
 -- a curve number is no other code

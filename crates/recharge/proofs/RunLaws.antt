@@ -19,19 +19,21 @@ use Rattle.paper.specs.CellDay.{Today, Figures, ownOf, passedOf}
 use Rattle.paper.specs.Covers.{entries}
 use Rattle.paper.proofs.CellDayLaws.{own-most}
 use Rattle.paper.proofs.FlowLaws.{water-same}
-use Rattle.recharge.specs.Cells.{cellIn, cellFrom, figuresFrom}
+use Rattle.survey.specs.Cells.{cellIn, cellFrom}
+use Rattle.recharge.specs.CellDay.{figuresFrom}
 use Rattle.recharge.specs.OwnWater.{Slotted, OwnReady}
 use Rattle.recharge.specs.RuleCodes.{ruleCode, numberAt, Numbered}
 use Rattle.recharge.specs.Retention.{table}
-use Rattle.recharge.specs.Routes.{nextIn, ruled, passedBy, Routable, Routed}
+use Rattle.survey.specs.Routes.{nextIn}
+use Rattle.recharge.specs.Routing.{ruled, passedBy, Routable, Routed}
 use Rattle.recharge.specs.Settle.{totalsBy, figureIn, goneIn, Ready, Settled}
 use Rattle.recharge.specs.Run.{passedIn, ownIn, reachedIn, dayIn, Runnable, Ran}
-use Rattle.recharge.specs.declared.answers.Totals.{Totals}
+use Rattle.records.specs.declared.answers.Totals.{Totals}
 use Rattle.recharge.proofs.SlotNumbers.{slot-number}
 use Rattle.recharge.proofs.RuleLaws.{all-numbered, code-passes, code-most}
 use Rattle.recharge.proofs.FigureLaws.{figures-outflow}
 use Rattle.recharge.proofs.RoutingLaws.{little-water}
-use Rattle.recharge.proofs.WayArrays.{over-at}
+use Rattle.survey.proofs.WayArrays.{over-at}
 
 -- the totals go by the cells' figures
 totals-same : (n gross : ℕ) (f g : ℕ → Figures) (gone : ℕ → Bool) → ((i : ℕ) → i < n → f i ≡ g i) → totalsBy n gross f gone ≡ totalsBy n gross g gone

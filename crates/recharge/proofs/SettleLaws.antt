@@ -20,12 +20,12 @@ use Rattle.paper.specs.Setup.{Cell}
 use Rattle.paper.specs.State.{mostSoilOf, mostSnowOf}
 use Rattle.paper.specs.CellDay.{Today, Figures, passedOf}
 use Rattle.paper.specs.Day as paper
-use Rattle.recharge.specs.Covers.{EntriesFit}
-use Rattle.recharge.specs.Cells.{cellFrom, cellIn, figuresFrom}
+use Rattle.survey.specs.Covers.{EntriesFit}
+use Rattle.survey.specs.Cells.{cellFrom, cellIn}
+use Rattle.recharge.specs.CellDay.{figuresFrom, CellReady, Fit32}
 use Rattle.recharge.specs.Ground.{Stands}
-use Rattle.recharge.specs.CellDay.{CellReady, Fit32}
 use Rattle.recharge.specs.Settle.{totalsIn, withCell, totalsBy, Room, figureIn, goneIn, Ready, Settled}
-use Rattle.recharge.specs.declared.answers.Totals.{Totals}
+use Rattle.records.specs.declared.answers.Totals.{Totals}
 use Rattle.recharge.specs.declared.ground.Ground.{Ground}
 use Rattle.recharge.proofs.SlotNumbers.{slot-number, slot-capacity}
 use Rattle.recharge.proofs.FigureLaws.{figures-outflow, figures-fit}

@@ -12,10 +12,10 @@ use Rattle.theory.proofs.Cases.{and-left, and-right}
 use Rattle.paper.specs.Covers.{curveNumberOf, rootDepthOf, entries, groupFits, entryFits}
 use Rattle.paper.specs.CurveNumber.{Condition, curveNumber}
 use Rattle.paper.proofs.CurveNumberLaws.{UpTo100, curve-number-limits}
-use Rattle.recharge.specs.Covers.{EntriesFit}
-use Rattle.recharge.specs.Cells.{cellFrom, SlotsFit}
+use Rattle.survey.specs.Covers.{EntriesFit}
+use Rattle.survey.specs.Cells.{cellFrom, SlotsFit}
 use Rattle.recharge.specs.OwnWater.{Slotted}
-use Rattle.recharge.specs.Quantities.{mostCapacity}
+use Rattle.recharge.specs.Depths.{mostCapacity}
 
 pub whole-entry : (covers : List ℕ) (slot : ℕ) → slot < 4 * entries covers → 16 * (slot / 4) + 16 ≤ length covers
 unfolding entries

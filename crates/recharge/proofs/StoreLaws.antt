@@ -15,9 +15,9 @@ use Rattle.paper.specs.Interception.{intercepted, net}
 use Rattle.paper.specs.State.{mostSoilOf, mostSnowOf}
 use Rattle.paper.specs.CellDay.{Today, figureOf, netOf, storeOf}
 use Rattle.paper.specs.Refusals.{tooDeep}
-use Rattle.recharge.specs.Cells.{cellFrom, SlotsFit}
+use Rattle.survey.specs.Cells.{cellFrom, SlotsFit}
 use Rattle.recharge.specs.Stores.{storesFrom, storesAt, fallFrom, deepFrom, deepAt}
-use Rattle.recharge.proofs.CoverLaws.{count-limit}
+use Rattle.survey.proofs.CoverLaws.{count-limit}
 
 module _ (covers : List ℕ) (slot water way : ℕ) where
   pub stores-any : (soil snow : ℕ)

@@ -5,12 +5,12 @@ use mathlib.Core.Path.{_≡_}
 use lib.ListN.{length, getD}
 use Rattle.theory.specs.Lists.{made}
 use Rattle.paper.specs.State.{mostSoilOf}
-use Rattle.recharge.specs.Cells.{cellFrom}
+use Rattle.survey.specs.Cells.{cellFrom}
 use Rattle.paper.specs.Day as paper
-use Rattle.recharge.specs.Calls.{stateOf, verdictAs}
+use Rattle.records.specs.Calls.{stateOf, verdictAs}
 use Rattle.recharge.specs.Settle.{totalsIn}
-use Rattle.recharge.specs.declared.answers.Answer.{Answer}
-use Rattle.recharge.specs.declared.answers.Start.{Start}
+use Rattle.records.specs.declared.answers.Answer.{Answer}
+use Rattle.records.specs.declared.answers.Start.{Start}
 
 abbrev pub resultsOf : List ℕ → List ℕ → List ℕ → List ℕ → List ℕ → paper.Results
 resultsOf intercepted outflow evapotranspired recharged rejected =

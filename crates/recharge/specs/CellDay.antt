@@ -1,10 +1,12 @@
 -- The code's figures of one cell's day as the paper's, and what its code asks for.
+use mathlib.Core.Bool.{cond}
 use mathlib.Core.List.{List}
 use mathlib.Core.Path.{_≡_}
 use Prim.Native.Nat.{ℕ, _≤_, _<_}
 use Rattle.paper.specs.Limits.{mostGross, mostPotential, mostSnow}
+use Rattle.paper.specs.Setup.{Cell}
 use Rattle.paper.specs.CellDay as paper
-use Rattle.recharge.specs.Quantities.{mostCapacity, waterLimit}
+use Rattle.recharge.specs.Depths.{mostCapacity, waterLimit}
 use Rattle.recharge.specs.Retention.{table}
 use Rattle.recharge.specs.declared.cell_day.Figures.{Figures}
 
@@ -39,3 +41,7 @@ pub record Fit32 (r : paper.Figures) : Type 0 where
   pub rejected : r .rejected < 4294967296
   pub soil : r .soil < 4294967296
   pub snow : r .snow < 4294967296
+
+-- the figures of a cell that water w reached
+unfoldable pub figuresFrom : Cell → paper.Today → ℕ → ℕ → ℕ → paper.Figures
+figuresFrom c t soil snow w = cond (c .open?) (paper.openDay w) (paper.landDay c t soil snow w)

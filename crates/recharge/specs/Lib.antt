@@ -1,14 +1,7 @@
-pub mod Covers
-pub mod Quantities
-pub mod CurveNumbers
+pub mod Depths
 pub mod Retention
 pub mod Soil
-pub mod Calls
-pub mod Cells
-pub mod Slots
-pub mod Routes
-pub mod Peeling
-pub mod Survey
+pub mod Routing
 pub mod Ground
 pub mod OwnWater
 pub mod RuleCodes

@@ -7,7 +7,7 @@ use Rattle.paper.specs.Limits.{mostCells, mostGross, mostSnow}
 use Rattle.paper.specs.Covers.{entries}
 use Rattle.paper.specs.Setup.{Cell}
 use Rattle.paper.specs.CellDay.{Today, interceptedOf, rainOf, storeOf, meltOf}
-use Rattle.recharge.specs.Covers.{EntriesFit}
+use Rattle.survey.specs.Covers.{EntriesFit}
 use Rattle.recharge.specs.declared.own_water.Brought.{Brought}
 
 -- rules 2 to 4 on land: what is held back, rain and melt, and the store that the melt left

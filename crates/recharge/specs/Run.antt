@@ -9,11 +9,12 @@ use Rattle.paper.specs.Limits.{mostGross, mostPotential, mostSnow}
 use Rattle.paper.specs.State.{mostSoilOf, mostSnowOf}
 use Rattle.paper.specs.CellDay.{Today, Figures, storeOf, ownOf, passedOf}
 use Rattle.paper.specs.Flow.{water}
-use Rattle.recharge.specs.Cells.{cellIn, SlotsFit, figuresFrom}
+use Rattle.survey.specs.Cells.{cellIn, SlotsFit}
+use Rattle.recharge.specs.CellDay.{figuresFrom}
 use Rattle.recharge.specs.OwnWater.{meltLimit}
-use Rattle.recharge.specs.Routes.{nextIn, WaysIn, OrderedBy}
+use Rattle.survey.specs.Routes.{nextIn, WaysIn, OrderedBy}
 use Rattle.recharge.specs.Settle.{goneIn, Settled}
-use Rattle.recharge.specs.declared.answers.Totals.{Totals}
+use Rattle.records.specs.declared.answers.Totals.{Totals}
 
 module _ (t : Today) (covers slots ways available : List ℕ) where
   unfoldable pub passedIn : ℕ → ℕ → ℕ

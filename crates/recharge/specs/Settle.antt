@@ -12,10 +12,11 @@ use Rattle.paper.specs.Covers.{openOf}
 use Rattle.paper.specs.State.{mostSoilOf, mostSnowOf}
 use Rattle.paper.specs.CellDay.{Today, Figures, storeOf, passedOf}
 use Rattle.paper.specs.Day as paper
-use Rattle.recharge.specs.Quantities.{waterLimit}
+use Rattle.recharge.specs.Depths.{waterLimit}
 use Rattle.recharge.specs.Retention.{table}
-use Rattle.recharge.specs.Cells.{cellIn, SlotsFit, figuresFrom}
-use Rattle.recharge.specs.declared.answers.Totals.{Totals}
+use Rattle.survey.specs.Cells.{cellIn, SlotsFit}
+use Rattle.recharge.specs.CellDay.{figuresFrom}
+use Rattle.records.specs.declared.answers.Totals.{Totals}
 
 abbrev pub totalsIn : Totals → paper.Totals
 totalsIn r =

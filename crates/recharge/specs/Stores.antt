@@ -11,7 +11,7 @@ use Rattle.paper.specs.State.{mostSoilOf, mostSnowOf}
 use Rattle.paper.specs.Interception.{net}
 use Rattle.paper.specs.CellDay.{Today}
 use Rattle.paper.specs.Refusals.{tooDeep}
-use Rattle.recharge.specs.Cells.{cellFrom}
+use Rattle.survey.specs.Cells.{cellFrom}
 
 -- a cell's stores are within their limits
 unfoldable pub storesFrom : List ℕ → ℕ → ℕ → ℕ → ℕ → Bool

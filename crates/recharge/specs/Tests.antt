@@ -1,24 +1,22 @@
 -- What a day's tests ask for and leave.
 use mathlib.Core.Path.{_≡_}
-use mathlib.Core.Bool.{true}
 use mathlib.Core.List.{List, [], _∷_, _++_}
 use Prim.Native.Nat.{ℕ}
 use lib.ListN.{length, replicate}
 use Rattle.theory.specs.Lists.{madeOver}
-use Rattle.paper.specs.Setup.{Setup, cells, gridFits}
+use Rattle.paper.specs.Setup.{Setup, cells}
 use Rattle.paper.specs.State.{State, Day}
-use Rattle.paper.specs.Refusals.{verdict, accepted, oneEach, setupLengths, setupTests, mapTests, dayTests}
-use Rattle.recharge.specs.Calls.{outcomeIn}
-use Rattle.recharge.specs.Cells.{slotOf}
-use Rattle.recharge.specs.Survey.{Mapped}
-use Rattle.recharge.specs.declared.answers.Outcome.{Outcome}
+use Rattle.paper.specs.Refusals.{verdict, accepted, setupLengths, setupTests, dayTests}
+use Rattle.paper.specs.Day.{checkOf}
+use Rattle.records.specs.Calls.{outcomeIn}
+use Rattle.survey.specs.Cells.{slotOf}
+use Rattle.survey.specs.Survey.{Mapped}
+use Rattle.records.specs.declared.answers.Outcome.{Outcome}
 use Rattle.recharge.specs.declared.tests.Lengths.{Lengths}
 
 -- a setup that passed tests 1 to 6, with its slots and a store an entry a cell
 pub record Testable (s : Setup) (soil snow slots : List ℕ) : Type 0 where
-  pub grid : gridFits s ≡ true
-  pub each : oneEach (cells s) (setupLengths s) ≡ true
-  pub map : verdict (mapTests s) ≡ accepted
+  pub passed : checkOf s ≡ accepted
   pub slots-are : slots ≡ madeOver (cells s) (slotOf s) (replicate 4096 0)
   pub soils : length soil ≡ cells s
   pub snows : length snow ≡ cells s

@@ -5,32 +5,31 @@ ghost use Rattle.paper.specs.State.{noRain, none};
 ghost use mathlib.Core.Bool.{cond};
 ghost use Prim.Native.Nat.{_≤_};
 ghost use lib.ListN.{length};
-ghost use Rattle.recharge.specs.Cells.{SlotsFit};
-ghost use Rattle.recharge.specs.Quantities.{memoryOf, mostCapacity};
-ghost use Rattle.recharge.specs.Calls.{setupOf, stateOf, lastOf, dayIn, outcomeIn};
+ghost use Rattle.survey.specs.Cells.{SlotsFit};
+ghost use Rattle.records.specs.Quantities.{memoryOf};
+ghost use Rattle.recharge.specs.Depths.{mostCapacity};
+ghost use Rattle.records.specs.Calls.{setupOf, stateOf, lastOf, dayIn, outcomeIn};
 ghost use Rattle.recharge.specs.Settle.{totalsIn};
 ghost use Rattle.recharge.specs.Answers.{resultsOf, answered, started, Filled};
-use crate::answers::Answer;
-use crate::answers::DayRecord;
-use crate::answers::Last;
-use crate::answers::Outcome;
-use crate::answers::Setup;
-use crate::answers::Start;
 use crate::ground::ground_at;
-use crate::lent::place;
-use crate::lent::wide;
-use crate::limits::count;
-use crate::limits::grid_fits;
-use crate::limits::setup_each;
-use crate::limits::stores_each;
-use crate::quantities::Depth;
-use crate::quantities::Memory;
 use crate::run::run;
 use crate::settle::none_yet;
-use crate::survey::survey;
 use crate::tests::Lengths;
 use crate::tests::tests;
-use crate::today::today_of;
+use records::Answer;
+use records::DayRecord;
+use records::Depth;
+use records::Last;
+use records::Memory;
+use records::Outcome;
+use records::Setup;
+use records::Start;
+use records::count;
+use records::grid_fits;
+use records::place;
+use records::stores_each;
+use records::today_of;
+use records::wide;
 
 // The setup check: tests 1 to 6.
 pub fn check(
@@ -43,17 +42,10 @@ pub fn check(
 ) -> Outcome
     ensures { λ r. ⌜ r ≡ outcomeIn (checkOf (setupOf setup (now (covers .entry)) (now (direction .entry)) (now (cover .entry)) (now (group .entry)) (now (water .entry)))) ⌝ }
 {
-    if !grid_fits(setup) {
-        return Outcome::GridSize;
-    }
-    let n = count(setup);
-    if !setup_each(n, direction.len(), cover.len(), group.len(), water.len()) {
-        return Outcome::LentSize;
-    }
     let mut slot = [0u32; 4096];
-    let mut way = [4097u32; 4096];
+    let mut way = [0u32; 4096];
     let mut turn = [0u32; 4096];
-    survey(
+    survey::survey(
         setup,
         covers,
         direction,
@@ -100,7 +92,7 @@ pub fn day(
     ensures { λ r. ⌜ answered r (now (soil .exit)) (now (snow .exit)) (now (intercepted .exit)) (now (outflow .exit)) (now (evapotranspired .exit)) (now (recharged .exit)) (now (rejected .exit)) ≡ dayOf (setupOf setup (now (covers .entry)) (now (direction .entry)) (now (cover .entry)) (now (group .entry)) (now (water .entry))) (stateOf (now (soil .entry)) (now (snow .entry)) memory last) (resultsOf (now (intercepted .entry)) (now (outflow .entry)) (now (evapotranspired .entry)) (now (recharged .entry)) (now (rejected .entry))) (dayIn day) ⌝ }
 {
     let mut slot = [0u32; 4096];
-    let mut way = [4097u32; 4096];
+    let mut way = [0u32; 4096];
     let mut turn = [0u32; 4096];
     let lengths = Lengths {
         intercepted: intercepted.len(),
@@ -212,17 +204,13 @@ pub fn fresh(
     if !grid_fits(setup) {
         return begin(Outcome::GridSize);
     }
-    let n = count(setup);
-    if !setup_each(n, direction.len(), cover.len(), group.len(), water.len()) {
-        return begin(Outcome::LentSize);
-    }
-    if !stores_each(n, soil.len(), snow.len()) {
+    if !stores_each(count(setup), soil.len(), snow.len()) {
         return begin(Outcome::LentSize);
     }
     let mut slot = [0u32; 4096];
-    let mut way = [4097u32; 4096];
+    let mut way = [0u32; 4096];
     let mut turn = [0u32; 4096];
-    let outcome = survey(
+    let outcome = survey::survey(
         setup,
         covers,
         direction,

@@ -2,15 +2,14 @@
 ghost use mathlib.Core.Path.{_≡_};
 ghost use Rattle.paper.specs.Setup.{Cell};
 ghost use Rattle.paper.specs.CellDay.{passedOf};
-ghost use Rattle.recharge.specs.Calls.{todayOf};
-ghost use Rattle.recharge.specs.Cells.{figuresFrom};
+ghost use Rattle.records.specs.Calls.{todayOf};
+ghost use Rattle.recharge.specs.CellDay.{figuresFrom, figuresOf, CellReady};
 ghost use Rattle.recharge.specs.Ground.{Stands};
-ghost use Rattle.recharge.specs.CellDay.{figuresOf, CellReady};
 use crate::ground::Ground;
 use crate::own_water::bring;
-use crate::quantities::Depth;
 use crate::soil::soil_day;
-use crate::today::Today;
+use records::Depth;
+use records::Today;
 
 pub(crate) struct Figures {
     pub(crate) intercepted: Depth,

@@ -1,40 +1,11 @@
-// Rule 5: the antecedent condition, and the curve number in that condition.
+// Rule 5: the curve number in the day's condition.
 ghost use mathlib.Core.Path.{_≡_};
 ghost use Prim.Native.Nat.{_≤_, _<_};
 ghost use Rattle.paper.specs.Limits.{leastCurveNumber, mostCurveNumber};
-ghost use Rattle.paper.specs.CurveNumber.{class as classOf, conditionOf, nearest as rounded, curveNumber};
-ghost use Rattle.recharge.specs.CurveNumbers.{conditionIn};
-use crate::quantities::CurveNumber;
-use crate::quantities::Depth;
-
-// By the rain of the five previous days: I is dry, II average, III wet.
-pub enum Condition {
-    I,
-    II,
-    III,
-}
-
-fn class(low: Depth, high: Depth, rain: Depth) -> Condition
-    ensures { λ r. ⌜ conditionIn r ≡ classOf (low .0) (high .0) (rain .0) ⌝ }
-{
-    if rain.0 < low.0 {
-        return Condition::I;
-    }
-    if high.0 < rain.0 {
-        return Condition::III;
-    }
-    Condition::II
-}
-
-pub(crate) fn condition_of(growing: bool, rain: Depth) -> Condition
-    ensures { λ r. ⌜ conditionIn r ≡ conditionOf growing (rain .0) ⌝ }
-{
-    if growing {
-        class(Depth(14000), Depth(21000), rain)
-    } else {
-        class(Depth(5000), Depth(11000), rain)
-    }
-}
+ghost use Rattle.paper.specs.CurveNumber.{nearest as rounded, curveNumber};
+ghost use Rattle.records.specs.Conditions.{conditionIn};
+use records::Condition;
+use records::CurveNumber;
 
 // Twice the numerator and the divisor once, over twice the divisor: halves go up.
 fn nearest(p: u64, q: u64) -> u64

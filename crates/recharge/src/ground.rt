@@ -5,11 +5,11 @@ ghost use Prim.Native.Nat.{ℕ, _+_, _*_, _/_, _%_, _≤_, _<_};
 ghost use lib.Dec.{eqb};
 ghost use Rattle.paper.specs.Limits.{mostAvailableWater};
 ghost use Rattle.paper.specs.Covers.{numberOf, openOf, curveNumberOf, growingOf, dormantOf, entries};
-ghost use Rattle.recharge.specs.Covers.{EntriesFit};
-ghost use Rattle.recharge.specs.Cells.{cellFrom};
+ghost use Rattle.survey.specs.Covers.{EntriesFit};
+ghost use Rattle.survey.specs.Cells.{cellFrom};
 ghost use Rattle.recharge.specs.Ground.{Stands};
-use crate::quantities::CurveNumber;
-use crate::quantities::Depth;
+use records::CurveNumber;
+use records::Depth;
 
 // What rules 2, 7 and 8 ask of the ground, in the day's season.
 pub(crate) struct Ground {

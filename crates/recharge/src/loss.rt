@@ -3,10 +3,10 @@ ghost use mathlib.Core.Path.{_≡_};
 ghost use Prim.Native.Nat.{_≤_, _<_};
 ghost use Rattle.paper.specs.Limits.{mostPotential};
 ghost use Rattle.paper.specs.Retention.{L, loss as rule8};
-ghost use Rattle.recharge.specs.Quantities.{mostCapacity};
+ghost use Rattle.recharge.specs.Depths.{mostCapacity};
 ghost use Rattle.recharge.specs.Retention.{table};
-use crate::lent::wide;
-use crate::quantities::Depth;
+use records::Depth;
+use records::wide;
 
 // L of the paper: the share of the soil's water that is lost, in parts of 1,048,576 × capacity. Nothing is rounded in it.
 fn share_lost(f: &[u32; 2049], capacity: Depth, shortfall: Depth) -> u64

@@ -8,17 +8,17 @@ ghost use Rattle.paper.specs.Limits.{mostGross, mostSnow};
 ghost use Rattle.paper.specs.Covers.{entries};
 ghost use Rattle.paper.specs.Setup.{Cell};
 ghost use Rattle.paper.specs.CellDay.{figureOf, ownOf};
-ghost use Rattle.recharge.specs.Calls.{todayOf};
-ghost use Rattle.recharge.specs.Cells.{cellFrom, cellIn};
+ghost use Rattle.records.specs.Calls.{todayOf};
+ghost use Rattle.survey.specs.Cells.{cellFrom, cellIn};
 ghost use Rattle.recharge.specs.OwnWater.{Brings, OwnReady};
 use crate::ground::is_open;
 use crate::ground::season_figure;
 use crate::interception::intercepted;
-use crate::lent::depth;
-use crate::lent::place;
-use crate::quantities::Depth;
-use crate::snow::melt;
-use crate::today::Today;
+use records::Depth;
+use records::Today;
+use records::depth;
+use records::melt;
+use records::place;
 
 // What the day brings to a cell on land: what its cover holds back, rain and melt, and the snow that stays.
 pub(crate) struct Brought {

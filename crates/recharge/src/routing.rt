@@ -1,11 +1,11 @@
 // Water along the order: each cell passes its outflow on to the cell that it points to before that one's turn comes.
-use crate::lent::place;
 use crate::outflow::outflow;
-use crate::quantities::CurveNumber;
-use crate::quantities::Depth;
+use records::CurveNumber;
+use records::Depth;
+use records::place;
 ghost use mathlib.Core.Path.{_≡_};
 ghost use Prim.Native.Nat.{_≤_, _<_};
-ghost use Rattle.recharge.specs.Routes.{ruled, Routable, Routed};
+ghost use Rattle.recharge.specs.Routing.{ruled, Routable, Routed};
 
 // What a cell passes on of its water, by the code of its rule.
 fn passed(rule: u32, w: u32) -> u32

@@ -8,15 +8,15 @@ ghost use lib.ListN.{length};
 ghost use Rattle.theory.specs.Lists.{madeOver};
 ghost use Rattle.paper.specs.Covers.{entries};
 ghost use Rattle.paper.specs.CurveNumber as rule5;
-ghost use Rattle.recharge.specs.Cells.{cellIn};
-ghost use Rattle.recharge.specs.Covers.{EntriesFit};
-ghost use Rattle.recharge.specs.CurveNumbers.{conditionIn};
+ghost use Rattle.survey.specs.Cells.{cellIn};
+ghost use Rattle.survey.specs.Covers.{EntriesFit};
+ghost use Rattle.records.specs.Conditions.{conditionIn};
 ghost use Rattle.recharge.specs.RuleCodes.{numberAt, ruleCode, Numbered, RulesReady};
-use crate::curve_numbers::Condition;
 use crate::curve_numbers::in_condition;
 use crate::ground::is_open;
 use crate::ground::table_number;
-use crate::lent::place;
+use records::Condition;
+use records::place;
 
 // Once a day for each slot of the table, and not once a cell.
 pub(crate) fn curve_numbers(condition: Condition, covers: &[u32], numbers: &mut [u32; 256])

@@ -1,14 +1,14 @@
 // An accepted day over all cells: their own water, its way downhill, and what it does to the ground of each.
-ghost use Rattle.recharge.specs.Calls.{todayOf};
+ghost use Rattle.records.specs.Calls.{todayOf};
 ghost use Rattle.recharge.specs.Run.{Runnable, Ran};
-use crate::answers::Totals;
 use crate::own_water::own_water;
 use crate::retention::retention;
 use crate::routing::route;
 use crate::rule_codes::curve_numbers;
 use crate::rule_codes::rule_codes;
 use crate::settle::settle;
-use crate::today::Today;
+use records::Today;
+use records::Totals;
 
 pub(crate) fn run(
     today: Today,

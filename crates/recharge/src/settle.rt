@@ -7,18 +7,18 @@ ghost use lib.ListN.{length};
 ghost use Rattle.theory.specs.Sums.{given};
 ghost use Rattle.paper.specs.Limits.{mostCells, mostGross};
 ghost use Rattle.paper.specs.Day.{noTotals};
-ghost use Rattle.recharge.specs.Calls.{todayOf};
+ghost use Rattle.records.specs.Calls.{todayOf};
 ghost use Rattle.recharge.specs.CellDay.{figuresOf, Fit32};
 ghost use Rattle.recharge.specs.Settle.{totalsIn, Room, withCell, figureIn, goneIn, Ready, Settled};
-use crate::answers::Totals;
 use crate::cell_day::Figures;
 use crate::cell_day::cell_day;
 use crate::ground::ground_at;
-use crate::lent::depth;
-use crate::lent::place;
-use crate::lent::wide;
-use crate::quantities::Depth;
-use crate::today::Today;
+use records::Depth;
+use records::Today;
+use records::Totals;
+use records::depth;
+use records::place;
+use records::wide;
 
 // What of a cell's outflow leaves the grid: all of it on open water and over the edge.
 fn gone_from(open_water: bool, way: u32, outflow: Depth) -> Depth

@@ -3,11 +3,11 @@ ghost use mathlib.Core.Path.{_≡_};
 ghost use Prim.Native.Nat.{_≤_, _<_};
 ghost use Rattle.paper.specs.Limits.{mostPotential};
 ghost use Rattle.paper.specs.Soil.{wetDay, dryDay, soilDay};
-ghost use Rattle.recharge.specs.Quantities.{mostCapacity, waterLimit};
+ghost use Rattle.recharge.specs.Depths.{mostCapacity, waterLimit};
 ghost use Rattle.recharge.specs.Retention.{table};
 ghost use Rattle.recharge.specs.Soil.{soilDayOf};
 use crate::loss::loss;
-use crate::quantities::Depth;
+use records::Depth;
 
 pub struct SoilDay {
     pub evapotranspired: Depth,

@@ -6,13 +6,13 @@ ghost use lib.ListN.{length};
 ghost use Rattle.theory.specs.Lowest.{lowest};
 ghost use Rattle.paper.specs.Limits.{mostGross};
 ghost use Rattle.paper.specs.Covers.{entries, growingOf, dormantOf};
-ghost use Rattle.recharge.specs.Calls.{todayOf};
-ghost use Rattle.recharge.specs.Cells.{SlotsFit};
-ghost use Rattle.recharge.specs.Covers.{placeIn};
+ghost use Rattle.records.specs.Calls.{todayOf};
+ghost use Rattle.survey.specs.Cells.{SlotsFit};
+ghost use Rattle.records.specs.Places.{placeIn};
 ghost use Rattle.recharge.specs.Stores.{storesFrom, storesAt, fallFrom, deepFrom, deepAt};
-use crate::answers::Place;
-use crate::quantities::Depth;
-use crate::today::Today;
+use records::Depth;
+use records::Place;
+use records::Today;
 
 fn wide(x: u32) -> u64
     ensures { λ r. ⌜ (r ≡ x) × (r < 4294967296) ⌝ }

@@ -1,28 +1,25 @@
 // A day's ten tests, in the order of the numbers. The setup's slices are lent whole, since the promises speak of the whole setup.
 ghost use mathlib.Core.Path.{_≡_};
 ghost use Rattle.paper.specs.Refusals.{verdict, dayTests};
-ghost use Rattle.recharge.specs.Calls.{setupOf, stateOf, dayIn, outcomeIn};
-ghost use lib.ListN.{replicate};
+ghost use Rattle.records.specs.Calls.{setupOf, stateOf, dayIn, outcomeIn};
 ghost use Rattle.recharge.specs.Tests.{Testable, Tested, lentLengths};
-use crate::answers::DayRecord;
-use crate::answers::Last;
-use crate::answers::Outcome;
-use crate::answers::Place;
-use crate::answers::Setup;
-use crate::limits::count;
-use crate::limits::day_fits;
-use crate::limits::follows;
-use crate::limits::grid_fits;
-use crate::limits::last_fits;
-use crate::limits::memory_fits;
-use crate::limits::results_each;
-use crate::limits::setup_each;
-use crate::limits::stores_each;
-use crate::quantities::Memory;
 use crate::stores::bad_store;
 use crate::stores::too_deep;
-use crate::survey::survey;
-use crate::today::today_of;
+use records::DayRecord;
+use records::Last;
+use records::Memory;
+use records::Outcome;
+use records::Place;
+use records::Setup;
+use records::count;
+use records::day_fits;
+use records::follows;
+use records::grid_fits;
+use records::last_fits;
+use records::memory_fits;
+use records::results_each;
+use records::stores_each;
+use records::today_of;
 
 // The lengths of the lent results.
 pub(crate) struct Lengths {
@@ -92,16 +89,12 @@ pub(crate) fn tests(
     way: &mut [u32; 4096],
     turn: &mut [u32; 4096],
 ) -> Outcome
-    requires { ⌜ (now slot ≡ replicate 4096 0) × (now way ≡ replicate 4096 4097) × (now turn ≡ replicate 4096 0) ⌝ }
     ensures { λ r. ⌜ Tested (setupOf setup (now (covers .entry)) (now (direction .entry)) (now (cover .entry)) (now (group .entry)) (now (water .entry))) (lentLengths (setupOf setup (now (covers .entry)) (now (direction .entry)) (now (cover .entry)) (now (group .entry)) (now (water .entry))) (now (soil .entry)) (now (snow .entry)) results) (stateOf (now (soil .entry)) (now (snow .entry)) memory last) (dayIn day) r (now (slot .exit)) (now (way .exit)) (now (turn .exit)) ⌝ }
 {
     if !grid_fits(setup) {
         return Outcome::GridSize;
     }
     let n = count(setup);
-    if !setup_each(n, direction.len(), cover.len(), group.len(), water.len()) {
-        return Outcome::LentSize;
-    }
     if !stores_each(n, soil.len(), snow.len()) {
         return Outcome::LentSize;
     }
@@ -115,7 +108,7 @@ pub(crate) fn tests(
     ) {
         return Outcome::LentSize;
     }
-    let outcome = survey(
+    let outcome = survey::survey(
         setup,
         covers,
         direction,

@@ -1,6 +1,6 @@
 // What an outcome of the library is printed as.
 ghost use mathlib.Core.Path.{_≡_};
-ghost use Rattle.recharge.specs.Calls.{verdictAs};
+ghost use Rattle.records.specs.Calls.{verdictAs};
 ghost use Rattle.text.specs.Refusals.{saidOf};
 use recharge::Outcome;
 

@@ -2,5 +2,6 @@ pub mod Cases
 pub mod ListLaws
 pub mod GivenLaws
 pub mod SumLaws
+pub mod SumsAlong
 pub mod LowestLaws
 pub mod WayLaws

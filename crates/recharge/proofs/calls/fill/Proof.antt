@@ -8,7 +8,7 @@ use lib.ListN.{length, getD}
 use Rattle.theory.specs.Lists.{madeOver}
 use Rattle.theory.proofs.ListLaws.{over-none, over-more, over-all, over-length}
 use Rattle.paper.specs.State.{mostSoilOf}
-use Rattle.recharge.specs.Cells.{cellFrom}
+use Rattle.survey.specs.Cells.{cellFrom}
 use Rattle.recharge.proofs.FreshLaws.{filled-is, room}
 use Rattle.recharge.proofs.SlotNumbers.{slot-capacity}
 use Rattle.recharge.proofs.calls.fill.Statement.{statement}

@@ -4,7 +4,7 @@ use Prim.Native.Nat.{ℕ, _*_}
 use native.Mathlib.Nat.{mul-le-mul}
 use native.Mathlib.Omega.{arith}
 use borrow.Author.Needs.{needs}
-use Rattle.recharge.specs.Cells.{cellFrom}
+use Rattle.survey.specs.Cells.{cellFrom}
 use Rattle.recharge.proofs.SlotNumbers.{root-depth-limit}
 use Rattle.recharge.proofs.ground.ground_at.Statement.{statement}
 use Rattle.recharge.proofs.ground.ground_at.Tie as tie

@@ -3,7 +3,7 @@ use mathlib.Core.Path.{sym, _∙_}
 use borrow.Author.Needs.{needs}
 use Rattle.theory.proofs.Cases.{cond-true, cond-false}
 use Rattle.paper.specs.CellDay.{figureOf, ownOf}
-use Rattle.recharge.specs.Cells.{cellFrom}
+use Rattle.survey.specs.Cells.{cellFrom}
 use Rattle.recharge.proofs.own_water.own_at.Statement.{statement}
 use Rattle.recharge.proofs.own_water.own_at.Tie as tie
 

@@ -10,8 +10,8 @@ use Rattle.theory.specs.Lists.{madeOver}
 use Rattle.theory.proofs.ListLaws.{over-none}
 use Rattle.paper.specs.CellDay.{ownOf}
 use Rattle.paper.proofs.CellDayLaws.{own-most}
-use Rattle.recharge.specs.Calls.{todayOf}
-use Rattle.recharge.specs.Cells.{cellFrom, cellIn}
+use Rattle.records.specs.Calls.{todayOf}
+use Rattle.survey.specs.Cells.{cellFrom, cellIn}
 use Rattle.recharge.proofs.LoopLaws.{wrote}
 use Rattle.recharge.proofs.OwnWaterLaws.{own-same}
 use Rattle.recharge.proofs.own_water.own_water.Statement.{statement}

@@ -4,7 +4,7 @@ use Rattle.recharge.proofs.routing.passed.Statement.{statement}
 use native.Mathlib.Omega.{arith}
 use borrow.Author.Tests.{eq-eqb, ne-eqb}
 use Rattle.paper.proofs.OutflowLaws.{outflow-most}
-use Rattle.recharge.specs.Routes.{ruled}
+use Rattle.recharge.specs.Routing.{ruled}
 use Rattle.recharge.proofs.routing.passed.Tie as tie
 
 returns : tie.Need-returns

@@ -8,8 +8,8 @@ use Prim.Native.Nat.{ℕ, _+_, _<_, _-_}
 use native.Mathlib.Omega.{arith}
 use borrow.Author.Needs.{needs}
 use lib.ListN.{set}
-use Rattle.recharge.specs.Routes.{nextIn}
-use Rattle.recharge.proofs.QueueLaws.{way-next}
+use Rattle.survey.specs.Routes.{nextIn}
+use Rattle.survey.proofs.QueueLaws.{way-next}
 use Rattle.recharge.proofs.RoutingLaws.{Routing, routing-starts, cell-inside, cell-little, routing-outside, routing-fits, routing-inside, routing-ends}
 use Rattle.recharge.proofs.routing.route.Tie as tie
 

@@ -9,9 +9,9 @@ use Rattle.theory.proofs.ListLaws.{over-none}
 use Rattle.paper.specs.Covers.{entries}
 use Rattle.paper.specs.CurveNumber.{curveNumber}
 use Rattle.paper.proofs.CurveNumberLaws.{UpTo100}
-use Rattle.recharge.specs.CurveNumbers.{conditionIn}
+use Rattle.records.specs.Conditions.{conditionIn}
 use Rattle.recharge.specs.RuleCodes.{numberAt}
-use Rattle.recharge.proofs.CoverLaws.{count-limit}
+use Rattle.survey.proofs.CoverLaws.{count-limit}
 use Rattle.recharge.proofs.SlotNumbers.{number-least, number-most, slot-number}
 use Rattle.recharge.proofs.LoopLaws.{wrote}
 use Rattle.recharge.proofs.rule_codes.curve_numbers.Statement.{statement}

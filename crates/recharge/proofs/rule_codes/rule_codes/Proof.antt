@@ -8,9 +8,9 @@ use borrow.Author.Needs.{needs}
 use Rattle.theory.specs.Lists.{madeOver}
 use Rattle.theory.proofs.ListLaws.{over-none}
 use Rattle.paper.specs.CurveNumber.{Condition}
-use Rattle.recharge.specs.Cells.{cellIn}
+use Rattle.survey.specs.Cells.{cellIn}
 use Rattle.recharge.specs.RuleCodes.{ruleCode, Numbered}
-use Rattle.recharge.proofs.CoverLaws.{count-limit}
+use Rattle.survey.proofs.CoverLaws.{count-limit}
 use Rattle.recharge.proofs.RuleLaws.{code-found}
 use Rattle.recharge.proofs.LoopLaws.{wrote, any-default}
 use Rattle.recharge.proofs.rule_codes.rule_codes.Statement.{statement}

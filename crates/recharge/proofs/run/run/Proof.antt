@@ -1,5 +1,5 @@
 -- `run::run` meets its contract: each pass is handed what the one before it left.
-use Rattle.recharge.specs.Calls.{todayOf}
+use Rattle.records.specs.Calls.{todayOf}
 use Rattle.recharge.proofs.RunLaws.{own-ask, route-ask, settle-ask, one-each, ran}
 use borrow.Author.Needs.{needs}
 use Rattle.recharge.proofs.run.run.Statement.{statement}
@@ -12,21 +12,39 @@ rule-codes-requires : tie.Need-rule-codes-requires
 rule-codes-requires c κs = search needs
 
 own-water-requires : tie.Need-own-water-requires
-own-water-requires c κs = own-ask _ _ _ _ _ _ _ _ _ _ _ _ _ (c .before .before .before .before .before .before .before .before .before .before .before .before .before .before .before .before .pre)
+own-water-requires c κs =
+    let start = c .before .before .before .before .before .before .before .before .before .before .before .before .before .before .before .before in
+    own-ask _ _ _ _ _ _ _ _ _ _ _ _ _ (start .pre)
 
 route-requires : tie.Need-route-requires
-route-requires c κs = route-ask _ _ _ _ _ _ _ _ _ _ _ _ _ (c .before .before .before .before .before .before .before .before .before .before .before .before .before .before .before .before .before .before .before .before .pre) _ _ _ (c .before .before .before .before .before .before .before .before .before .curve-numbers .ensures)
-    (c .before .before .before .before .before .before .rule-codes .ensures (todayOf (c .before .before .before .before .before .before .before .before .before .before .before .before .before .before .before .before .before .before .before .before .args .today) .condition) (c .before .before .before .before .before .before .before .before .before .before .before .before .before .before .before .before .before .before .before .before .args .water .now))
-    (c .before .before .before .own-water .ensures (c .before .before .before .before .before .before .before .before .before .before .before .before .before .before .before .before .before .before .before .before .args .water .now) (c .before .before .before .before .before .before .before .before .before .before .before .before .before .before .before .before .before .before .before .before .args .ways .now))
+route-requires c κs =
+    let at-own-water = c .before .before .before in
+    let at-rule-codes = at-own-water .before .before .before in
+    let at-curve-numbers = at-rule-codes .before .before .before in
+    let start = at-curve-numbers .before .before .before .before .before .before .before .before .before .before .before in
+    let a = start .args in
+    let t = todayOf (a .today) in
+    route-ask _ _ _ _ _ _ _ _ _ _ _ _ _ (start .pre) _ _ _ (at-curve-numbers .curve-numbers .ensures)
+    (at-rule-codes .rule-codes .ensures (t .condition) (a .water .now))
+    (at-own-water .own-water .ensures (a .water .now) (a .ways .now))
 
 retention-requires : tie.Need-retention-requires
 retention-requires c κs = search needs
 
 settle-requires : tie.Need-settle-requires
-settle-requires c κs = settle-ask _ _ _ _ _ _ _ _ _ _ _ _ _ (c .before .before .before .before .before .before .before .before .before .before .before .before .before .before .before .before .before .before .before .before .before .before .before .before .before .before .before .before .before .before .before .before .before .pre) _ _ _ (c .before .before .before .before .before .before .before .before .before .before .before .before .before .before .before .before .before .before .before .before .before .before .curve-numbers .ensures)
-    (c .before .before .before .before .before .before .before .before .before .before .before .before .before .before .before .before .before .before .before .rule-codes .ensures (todayOf (c .before .before .before .before .before .before .before .before .before .before .before .before .before .before .before .before .before .before .before .before .before .before .before .before .before .before .before .before .before .before .before .before .before .args .today) .condition) (c .before .before .before .before .before .before .before .before .before .before .before .before .before .before .before .before .before .before .before .before .before .before .before .before .before .before .before .before .before .before .before .before .before .args .water .now))
-    (c .before .before .before .before .before .before .before .before .before .before .before .before .before .before .before .before .own-water .ensures (c .before .before .before .before .before .before .before .before .before .before .before .before .before .before .before .before .before .before .before .before .before .before .before .before .before .before .before .before .before .before .before .before .before .args .water .now) (c .before .before .before .before .before .before .before .before .before .before .before .before .before .before .before .before .before .before .before .before .before .before .before .before .before .before .before .before .before .before .before .before .before .args .ways .now))
-    _ _ (c .before .before .before .before .before .before .before .before .before .before .before .before .route .ensures) _ (c .before .before .before .before .before .before .before .before .before .retention .ensures)
+settle-requires c κs =
+    let at-retention = c .before .before .before .before .before .before .before .before .before in
+    let at-route = at-retention .before .before .before in
+    let at-own-water = at-route .before .before .before .before in
+    let at-rule-codes = at-own-water .before .before .before in
+    let at-curve-numbers = at-rule-codes .before .before .before in
+    let start = at-curve-numbers .before .before .before .before .before .before .before .before .before .before .before in
+    let a = start .args in
+    let t = todayOf (a .today) in
+    settle-ask _ _ _ _ _ _ _ _ _ _ _ _ _ (start .pre) _ _ _ (at-curve-numbers .curve-numbers .ensures)
+    (at-rule-codes .rule-codes .ensures (t .condition) (a .water .now))
+    (at-own-water .own-water .ensures (a .water .now) (a .ways .now))
+    _ _ (at-route .route .ensures) _ (at-retention .retention .ensures)
 
 same-length : tie.Need-same-length
 same-length c = search needs
@@ -38,10 +56,18 @@ same-length-3 : tie.Need-same-length-3
 same-length-3 c = search needs
 
 same-length-4 : tie.Need-same-length-4
-same-length-4 c = one-each _ _ _ _ _ _ _ _ _ _ _ _ _ (c .before .before .before .before .before .before .before .before .before .before .before .before .before .before .before .before .before .before .before .before .before .before .before .before .before .before .before .before .before .before .before .before .before .before .before .before .before .before .before .before .before .before .before .before .before .before .pre) _ _ _ (c .before .before .before .before .before .before .before .before .before .before .before .before .before .before .before .before .before .before .before .before .before .before .before .before .before .before .before .before .before .before .before .before .before .before .before .curve-numbers .ensures)
-    (c .before .before .before .before .before .before .before .before .before .before .before .before .before .before .before .before .before .before .before .before .before .before .before .before .before .before .before .before .before .before .before .before .rule-codes .ensures (todayOf (c .before .before .before .before .before .before .before .before .before .before .before .before .before .before .before .before .before .before .before .before .before .before .before .before .before .before .before .before .before .before .before .before .before .before .before .before .before .before .before .before .before .before .before .before .before .before .args .today) .condition) (c .before .before .before .before .before .before .before .before .before .before .before .before .before .before .before .before .before .before .before .before .before .before .before .before .before .before .before .before .before .before .before .before .before .before .before .before .before .before .before .before .before .before .before .before .before .before .args .water .now))
-    (c .before .before .before .before .before .before .before .before .before .before .before .before .before .before .before .before .before .before .before .before .before .before .before .before .before .before .before .before .before .own-water .ensures (c .before .before .before .before .before .before .before .before .before .before .before .before .before .before .before .before .before .before .before .before .before .before .before .before .before .before .before .before .before .before .before .before .before .before .before .before .before .before .before .before .before .before .before .before .before .before .args .water .now) (c .before .before .before .before .before .before .before .before .before .before .before .before .before .before .before .before .before .before .before .before .before .before .before .before .before .before .before .before .before .before .before .before .before .before .before .before .before .before .before .before .before .before .before .before .before .before .args .ways .now))
-    _ _ (c .before .before .before .before .before .before .before .before .before .before .before .before .before .before .before .before .before .before .before .before .before .before .before .before .before .route .ensures)
+same-length-4 c =
+    let at-route = c .before .before .before .before .before .before .before .before .before .before .before .before .before .before .before .before .before .before .before .before .before .before .before .before .before in
+    let at-own-water = at-route .before .before .before .before in
+    let at-rule-codes = at-own-water .before .before .before in
+    let at-curve-numbers = at-rule-codes .before .before .before in
+    let start = at-curve-numbers .before .before .before .before .before .before .before .before .before .before .before in
+    let a = start .args in
+    let t = todayOf (a .today) in
+    one-each _ _ _ _ _ _ _ _ _ _ _ _ _ (start .pre) _ _ _ (at-curve-numbers .curve-numbers .ensures)
+    (at-rule-codes .rule-codes .ensures (t .condition) (a .water .now))
+    (at-own-water .own-water .ensures (a .water .now) (a .ways .now))
+    _ _ (at-route .route .ensures)
 
 same-length-5 : tie.Need-same-length-5
 same-length-5 c = search needs
@@ -53,10 +79,19 @@ same-length-7 : tie.Need-same-length-7
 same-length-7 c = search needs
 
 returns : tie.Need-returns
-returns c = ran _ _ _ _ _ _ _ _ _ _ _ _ _ (c .before .before .before .before .before .before .before .before .before .before .before .before .before .before .before .before .before .before .before .before .before .before .before .before .before .before .before .before .before .before .before .before .before .before .before .before .before .before .before .before .before .before .before .before .before .before .pre) _ _ _ (c .before .before .before .before .before .before .before .before .before .before .before .before .before .before .before .before .before .before .before .before .before .before .before .before .before .before .before .before .before .before .before .before .before .before .before .curve-numbers .ensures)
-    (c .before .before .before .before .before .before .before .before .before .before .before .before .before .before .before .before .before .before .before .before .before .before .before .before .before .before .before .before .before .before .before .before .rule-codes .ensures (todayOf (c .before .before .before .before .before .before .before .before .before .before .before .before .before .before .before .before .before .before .before .before .before .before .before .before .before .before .before .before .before .before .before .before .before .before .before .before .before .before .before .before .before .before .before .before .before .before .args .today) .condition) (c .before .before .before .before .before .before .before .before .before .before .before .before .before .before .before .before .before .before .before .before .before .before .before .before .before .before .before .before .before .before .before .before .before .before .before .before .before .before .before .before .before .before .before .before .before .before .args .water .now))
-    (c .before .before .before .before .before .before .before .before .before .before .before .before .before .before .before .before .before .before .before .before .before .before .before .before .before .before .before .before .before .own-water .ensures (c .before .before .before .before .before .before .before .before .before .before .before .before .before .before .before .before .before .before .before .before .before .before .before .before .before .before .before .before .before .before .before .before .before .before .before .before .before .before .before .before .before .before .before .before .before .before .args .water .now) (c .before .before .before .before .before .before .before .before .before .before .before .before .before .before .before .before .before .before .before .before .before .before .before .before .before .before .before .before .before .before .before .before .before .before .before .before .before .before .before .before .before .before .before .before .before .before .args .ways .now))
-    _ _ (c .before .before .before .before .before .before .before .before .before .before .before .before .before .before .before .before .before .before .before .before .before .before .before .before .before .route .ensures) _ _ _ _ _ _ _ (c .before .before .before .before .before .before .before .before .before .before .before .before .settle .ensures)
+returns c =
+    let at-settle = c .before .before .before .before .before .before .before .before .before .before .before .before in
+    let at-route = at-settle .before .before .before .before .before .before .before .before .before .before .before .before .before in
+    let at-own-water = at-route .before .before .before .before in
+    let at-rule-codes = at-own-water .before .before .before in
+    let at-curve-numbers = at-rule-codes .before .before .before in
+    let start = at-curve-numbers .before .before .before .before .before .before .before .before .before .before .before in
+    let a = start .args in
+    let t = todayOf (a .today) in
+    ran _ _ _ _ _ _ _ _ _ _ _ _ _ (start .pre) _ _ _ (at-curve-numbers .curve-numbers .ensures)
+    (at-rule-codes .rule-codes .ensures (t .condition) (a .water .now))
+    (at-own-water .own-water .ensures (a .water .now) (a .ways .now))
+    _ _ (at-route .route .ensures) _ _ _ _ _ _ _ (at-settle .settle .ensures)
 
 pub run-spec : {M : Type 1} → statement M
 run-spec =

@@ -7,8 +7,8 @@ use lib.ListN.{length}
 use borrow.Author.Needs.{needs}
 use Rattle.theory.specs.Sums.{given}
 use Rattle.paper.specs.CellDay as days
-use Rattle.recharge.specs.Calls.{todayOf}
-use Rattle.recharge.specs.Cells.{cellIn}
+use Rattle.records.specs.Calls.{todayOf}
+use Rattle.survey.specs.Cells.{cellIn}
 use Rattle.recharge.specs.Ground.{Stands}
 use Rattle.recharge.specs.CellDay.{figuresOf, Fit32}
 use Rattle.recharge.specs.Settle.{totalsIn, figureIn, goneIn}

@@ -8,7 +8,7 @@ use borrow.Author.Count.{below-more}
 use borrow.Author.Needs.{needs}
 use lib.ListN.{length}
 use Rattle.recharge.specs.Stores.{storesAt}
-use Rattle.recharge.proofs.PlaceLaws.{PassedTo, found-place, no-place}
+use Rattle.survey.proofs.PlaceLaws.{PassedTo, found-place, no-place}
 use Rattle.recharge.proofs.stores.bad_store.Statement.{statement}
 use Rattle.recharge.proofs.stores.bad_store.Tie as tie
 

@@ -3,7 +3,7 @@ use borrow.Author.Needs.{needs}
 use borrow.Author.Tests.{le-leb, lt-leb, eq-eqb, ne-eqb}
 use Rattle.paper.specs.Covers.{entries}
 use Rattle.paper.specs.State.{mostSoilOf, mostSnowOf}
-use Rattle.recharge.specs.Cells.{cellFrom}
+use Rattle.survey.specs.Cells.{cellFrom}
 use Rattle.recharge.specs.Stores.{storesFrom}
 use Rattle.recharge.proofs.StoreLaws.{leb-zero, product-fits}
 use Rattle.recharge.proofs.stores.stores_fit.Statement.{statement}

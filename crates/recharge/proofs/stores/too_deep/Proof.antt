@@ -8,9 +8,9 @@ use borrow.Author.Needs.{needs}
 use lib.ListN.{length, getD}
 use Rattle.paper.specs.CellDay.{figureOf, netOf, storeOf}
 use Rattle.paper.specs.Refusals.{tooDeep}
-use Rattle.recharge.specs.Cells.{cellFrom}
+use Rattle.survey.specs.Cells.{cellFrom}
 use Rattle.recharge.specs.Stores.{fallFrom, deepFrom, deepAt}
-use Rattle.recharge.proofs.PlaceLaws.{PassedTo, found-place, no-place}
+use Rattle.survey.proofs.PlaceLaws.{PassedTo, found-place, no-place}
 use Rattle.recharge.proofs.stores.too_deep.Statement.{statement}
 use Rattle.recharge.proofs.stores.too_deep.Tie as tie
 

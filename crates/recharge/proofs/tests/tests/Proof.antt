@@ -1,18 +1,19 @@
 -- `tests::tests` meets its contract: the tests run in the order of the numbers, and each way out is the verdict of those up to there.
-use mathlib.Core.List.{[], _∷_, _++_}
-use mathlib.Core.Path.{sym, ap, _∙_, refl}
+use mathlib.Core.List.{List, [], _∷_, _++_}
+use mathlib.Core.Path.{_≡_, sym, ap, _∙_, refl}
+use mathlib.Core.Bool.{true}
 use Prim.Native.Nat.{ℕ}
 use lib.ListN.{length}
 use borrow.Author.Tests.{not-true, not-false}
 use types.Run.{miss}
 use Rattle.theory.proofs.Cases.{and-both, and-first, and-second}
 use Rattle.paper.specs.Setup.{cells, gridFits}
-use Rattle.paper.specs.Refusals.{grid, lent, oneEach, setupLengths}
-use Rattle.recharge.specs.Calls.{setupOf, stateOf, dayIn}
-use Rattle.recharge.specs.Tests.{lentLengths}
-use Rattle.recharge.proofs.CallLaws.{grid-bad, lent-bad, surveyable, blank-arrays}
-use Rattle.recharge.proofs.MapLaws.{accepted-back}
-use Rattle.recharge.proofs.TestLaws.{refuse-tests, survey-refuses, day-decides, each-three, two-each}
+use Rattle.paper.specs.Refusals.{grid, lent, accepted, oneEach}
+use Rattle.paper.specs.Day.{checkOf}
+use Rattle.records.specs.Calls.{setupOf, stateOf, dayIn}
+use Rattle.records.proofs.OutcomeLaws.{accepted-back}
+use Rattle.survey.proofs.CallLaws.{grid-bad, more-bad, each-both}
+use Rattle.recharge.proofs.TestLaws.{refuse-tests, survey-refuses, day-decides, two-each}
 use borrow.Author.Needs.{needs}
 use Rattle.recharge.proofs.tests.tests.Statement.{statement}
 use Rattle.recharge.proofs.tests.tests.Tie as tie
@@ -21,76 +22,140 @@ grid-fits-requires : tie.Need-grid-fits-requires
 grid-fits-requires c κs = search needs
 
 returns : tie.Need-returns
-unfolding gridFits cells setupLengths
-returns c = refuse-tests (setupOf (c .before .before .before .before .before .before .before .before .before .args .setup) (c .before .before .before .before .before .before .before .before .before .args .covers .now) (c .before .before .before .before .before .before .before .before .before .args .direction .now) (c .before .before .before .before .before .before .before .before .before .args .cover .now) (c .before .before .before .before .before .before .before .before .before .args .group .now) (c .before .before .before .before .before .before .before .before .before .args .water .now)) (lentLengths (setupOf (c .before .before .before .before .before .before .before .before .before .args .setup) (c .before .before .before .before .before .before .before .before .before .args .covers .now) (c .before .before .before .before .before .before .before .before .before .args .direction .now) (c .before .before .before .before .before .before .before .before .before .args .cover .now) (c .before .before .before .before .before .before .before .before .before .args .group .now) (c .before .before .before .before .before .before .before .before .before .args .water .now)) (c .before .before .before .before .before .before .before .before .before .args .soil .now) (c .before .before .before .before .before .before .before .before .before .args .snow .now) (c .before .before .before .before .before .before .before .before .before .args .results)) (stateOf (c .before .before .before .before .before .before .before .before .before .args .soil .now) (c .before .before .before .before .before .before .before .before .before .args .snow .now) (c .before .before .before .before .before .before .before .before .before .args .memory) (c .before .before .before .before .before .before .before .before .before .args .last)) (dayIn (c .before .before .before .before .before .before .before .before .before .args .day)) _ grid _ _ _ (grid-bad (setupOf (c .before .before .before .before .before .before .before .before .before .args .setup) (c .before .before .before .before .before .before .before .before .before .args .covers .now) (c .before .before .before .before .before .before .before .before .before .args .direction .now) (c .before .before .before .before .before .before .before .before .before .args .cover .now) (c .before .before .before .before .before .before .before .before .before .args .group .now) (c .before .before .before .before .before .before .before .before .before .args .water .now)) (lentLengths (setupOf (c .before .before .before .before .before .before .before .before .before .args .setup) (c .before .before .before .before .before .before .before .before .before .args .covers .now) (c .before .before .before .before .before .before .before .before .before .args .direction .now) (c .before .before .before .before .before .before .before .before .before .args .cover .now) (c .before .before .before .before .before .before .before .before .before .args .group .now) (c .before .before .before .before .before .before .before .before .before .args .water .now)) (c .before .before .before .before .before .before .before .before .before .args .soil .now) (c .before .before .before .before .before .before .before .before .before .args .snow .now) (c .before .before .before .before .before .before .before .before .before .args .results)) (sym (c .before .grid-fits .ensures) ∙ not-true _ (c .if1 .taken))) refl
+unfolding gridFits cells
+returns c =
+    let at-grid-fits = c .before in
+    let a = at-grid-fits .before .before .before .before .before .before .before .before .args in
+    let s = setupOf (a .setup) (a .covers .now) (a .direction .now) (a .cover .now) (a .group .now) (a .water .now) in
+    let lentStores : List ℕ = length (a .soil .now) ∷ length (a .snow .now) ∷ [] in
+    let lentResults : List ℕ = a .results .intercepted ∷ a .results .outflow ∷ a .results .evapotranspired ∷ a .results .recharged ∷ a .results .rejected ∷ [] in
+    let st = stateOf (a .soil .now) (a .snow .now) (a .memory) (a .last) in
+    let d = dayIn (a .day) in
+    refuse-tests s (lentStores ++ lentResults) st d _ grid _ _ _
+    (grid-bad s _ (sym (at-grid-fits .grid-fits .ensures) ∙ not-true _ (c .if1 .taken))) refl
 
 count-requires : tie.Need-count-requires
-count-requires c κs = (sym (c .before .grid-fits .ensures) ∙ not-false _ (c .if1 .left))
-
-setup-each-requires : tie.Need-setup-each-requires
-setup-each-requires c κs = search needs
-
-returns-2 : tie.Need-returns-2
-unfolding gridFits cells setupLengths
-returns-2 c =
-    refuse-tests (setupOf (c .before .before .before .before .before .before .before .before .before .before .before .before .args .setup) (c .before .before .before .before .before .before .before .before .before .before .before .before .args .covers .now) (c .before .before .before .before .before .before .before .before .before .before .before .before .args .direction .now) (c .before .before .before .before .before .before .before .before .before .before .before .before .args .cover .now) (c .before .before .before .before .before .before .before .before .before .before .before .before .args .group .now) (c .before .before .before .before .before .before .before .before .before .before .before .before .args .water .now)) (lentLengths (setupOf (c .before .before .before .before .before .before .before .before .before .before .before .before .args .setup) (c .before .before .before .before .before .before .before .before .before .before .before .before .args .covers .now) (c .before .before .before .before .before .before .before .before .before .before .before .before .args .direction .now) (c .before .before .before .before .before .before .before .before .before .before .before .before .args .cover .now) (c .before .before .before .before .before .before .before .before .before .before .before .before .args .group .now) (c .before .before .before .before .before .before .before .before .before .before .before .before .args .water .now)) (c .before .before .before .before .before .before .before .before .before .before .before .before .args .soil .now) (c .before .before .before .before .before .before .before .before .before .before .before .before .args .snow .now) (c .before .before .before .before .before .before .before .before .before .before .before .before .args .results)) (stateOf (c .before .before .before .before .before .before .before .before .before .before .before .before .args .soil .now) (c .before .before .before .before .before .before .before .before .before .before .before .before .args .snow .now) (c .before .before .before .before .before .before .before .before .before .before .before .before .args .memory) (c .before .before .before .before .before .before .before .before .before .before .before .before .args .last)) (dayIn (c .before .before .before .before .before .before .before .before .before .before .before .before .args .day)) _ lent _ _ _
-    (lent-bad (setupOf (c .before .before .before .before .before .before .before .before .before .before .before .before .args .setup) (c .before .before .before .before .before .before .before .before .before .before .before .before .args .covers .now) (c .before .before .before .before .before .before .before .before .before .before .before .before .args .direction .now) (c .before .before .before .before .before .before .before .before .before .before .before .before .args .cover .now) (c .before .before .before .before .before .before .before .before .before .before .before .before .args .group .now) (c .before .before .before .before .before .before .before .before .before .before .before .before .args .water .now)) (lentLengths (setupOf (c .before .before .before .before .before .before .before .before .before .before .before .before .args .setup) (c .before .before .before .before .before .before .before .before .before .before .before .before .args .covers .now) (c .before .before .before .before .before .before .before .before .before .before .before .before .args .direction .now) (c .before .before .before .before .before .before .before .before .before .before .before .before .args .cover .now) (c .before .before .before .before .before .before .before .before .before .before .before .before .args .group .now) (c .before .before .before .before .before .before .before .before .before .before .before .before .args .water .now)) (c .before .before .before .before .before .before .before .before .before .before .before .before .args .soil .now) (c .before .before .before .before .before .before .before .before .before .before .before .before .args .snow .now) (c .before .before .before .before .before .before .before .before .before .before .before .before .args .results)) (sym (c .before .before .before .before .grid-fits .ensures) ∙ not-false _ (c .before .before .before .if1 .left))
-    (each-three (cells (setupOf (c .before .before .before .before .before .before .before .before .before .before .before .before .args .setup) (c .before .before .before .before .before .before .before .before .before .before .before .before .args .covers .now) (c .before .before .before .before .before .before .before .before .before .before .before .before .args .direction .now) (c .before .before .before .before .before .before .before .before .before .before .before .before .args .cover .now) (c .before .before .before .before .before .before .before .before .before .before .before .before .args .group .now) (c .before .before .before .before .before .before .before .before .before .before .before .before .args .water .now))) (setupLengths (setupOf (c .before .before .before .before .before .before .before .before .before .before .before .before .args .setup) (c .before .before .before .before .before .before .before .before .before .before .before .before .args .covers .now) (c .before .before .before .before .before .before .before .before .before .before .before .before .args .direction .now) (c .before .before .before .before .before .before .before .before .before .before .before .before .args .cover .now) (c .before .before .before .before .before .before .before .before .before .before .before .before .args .group .now) (c .before .before .before .before .before .before .before .before .before .before .before .before .args .water .now))) (length (c .before .before .before .before .before .before .before .before .before .before .before .before .args .soil .now) ∷ length (c .before .before .before .before .before .before .before .before .before .before .before .before .args .snow .now) ∷ []) (c .before .before .before .before .before .before .before .before .before .before .before .before .args .results .intercepted ∷ c .before .before .before .before .before .before .before .before .before .before .before .before .args .results .outflow ∷ c .before .before .before .before .before .before .before .before .before .before .before .before .args .results .evapotranspired ∷ c .before .before .before .before .before .before .before .before .before .before .before .before .args .results .recharged ∷ c .before .before .before .before .before .before .before .before .before .before .before .before .args .results .rejected ∷ []) ∙ and-first _ _ (ap (λ (n : ℕ). oneEach n (setupLengths (setupOf (c .before .before .before .before .before .before .before .before .before .before .before .before .args .setup) (c .before .before .before .before .before .before .before .before .before .before .before .before .args .covers .now) (c .before .before .before .before .before .before .before .before .before .before .before .before .args .direction .now) (c .before .before .before .before .before .before .before .before .before .before .before .before .args .cover .now) (c .before .before .before .before .before .before .before .before .before .before .before .before .args .group .now) (c .before .before .before .before .before .before .before .before .before .before .before .before .args .water .now)))) (sym (c .before .before .count .ensures)) ∙ (sym (c .before .setup-each .ensures) ∙ not-true _ (c .if2 .taken))))) refl
+count-requires c κs = search needs
 
 stores-each-requires : tie.Need-stores-each-requires
 stores-each-requires c κs = search needs
 
-returns-3 : tie.Need-returns-3
-unfolding gridFits cells setupLengths
-returns-3 c =
-    refuse-tests (setupOf (c .before .before .before .before .before .before .before .before .before .before .before .before .before .before .args .setup) (c .before .before .before .before .before .before .before .before .before .before .before .before .before .before .args .covers .now) (c .before .before .before .before .before .before .before .before .before .before .before .before .before .before .args .direction .now) (c .before .before .before .before .before .before .before .before .before .before .before .before .before .before .args .cover .now) (c .before .before .before .before .before .before .before .before .before .before .before .before .before .before .args .group .now) (c .before .before .before .before .before .before .before .before .before .before .before .before .before .before .args .water .now)) (lentLengths (setupOf (c .before .before .before .before .before .before .before .before .before .before .before .before .before .before .args .setup) (c .before .before .before .before .before .before .before .before .before .before .before .before .before .before .args .covers .now) (c .before .before .before .before .before .before .before .before .before .before .before .before .before .before .args .direction .now) (c .before .before .before .before .before .before .before .before .before .before .before .before .before .before .args .cover .now) (c .before .before .before .before .before .before .before .before .before .before .before .before .before .before .args .group .now) (c .before .before .before .before .before .before .before .before .before .before .before .before .before .before .args .water .now)) (c .before .before .before .before .before .before .before .before .before .before .before .before .before .before .args .soil .now) (c .before .before .before .before .before .before .before .before .before .before .before .before .before .before .args .snow .now) (c .before .before .before .before .before .before .before .before .before .before .before .before .before .before .args .results)) (stateOf (c .before .before .before .before .before .before .before .before .before .before .before .before .before .before .args .soil .now) (c .before .before .before .before .before .before .before .before .before .before .before .before .before .before .args .snow .now) (c .before .before .before .before .before .before .before .before .before .before .before .before .before .before .args .memory) (c .before .before .before .before .before .before .before .before .before .before .before .before .before .before .args .last)) (dayIn (c .before .before .before .before .before .before .before .before .before .before .before .before .before .before .args .day)) _ lent _ _ _
-    (lent-bad (setupOf (c .before .before .before .before .before .before .before .before .before .before .before .before .before .before .args .setup) (c .before .before .before .before .before .before .before .before .before .before .before .before .before .before .args .covers .now) (c .before .before .before .before .before .before .before .before .before .before .before .before .before .before .args .direction .now) (c .before .before .before .before .before .before .before .before .before .before .before .before .before .before .args .cover .now) (c .before .before .before .before .before .before .before .before .before .before .before .before .before .before .args .group .now) (c .before .before .before .before .before .before .before .before .before .before .before .before .before .before .args .water .now)) (lentLengths (setupOf (c .before .before .before .before .before .before .before .before .before .before .before .before .before .before .args .setup) (c .before .before .before .before .before .before .before .before .before .before .before .before .before .before .args .covers .now) (c .before .before .before .before .before .before .before .before .before .before .before .before .before .before .args .direction .now) (c .before .before .before .before .before .before .before .before .before .before .before .before .before .before .args .cover .now) (c .before .before .before .before .before .before .before .before .before .before .before .before .before .before .args .group .now) (c .before .before .before .before .before .before .before .before .before .before .before .before .before .before .args .water .now)) (c .before .before .before .before .before .before .before .before .before .before .before .before .before .before .args .soil .now) (c .before .before .before .before .before .before .before .before .before .before .before .before .before .before .args .snow .now) (c .before .before .before .before .before .before .before .before .before .before .before .before .before .before .args .results)) (sym (c .before .before .before .before .before .before .grid-fits .ensures) ∙ not-false _ (c .before .before .before .before .before .if1 .left))
-    (each-three (cells (setupOf (c .before .before .before .before .before .before .before .before .before .before .before .before .before .before .args .setup) (c .before .before .before .before .before .before .before .before .before .before .before .before .before .before .args .covers .now) (c .before .before .before .before .before .before .before .before .before .before .before .before .before .before .args .direction .now) (c .before .before .before .before .before .before .before .before .before .before .before .before .before .before .args .cover .now) (c .before .before .before .before .before .before .before .before .before .before .before .before .before .before .args .group .now) (c .before .before .before .before .before .before .before .before .before .before .before .before .before .before .args .water .now))) (setupLengths (setupOf (c .before .before .before .before .before .before .before .before .before .before .before .before .before .before .args .setup) (c .before .before .before .before .before .before .before .before .before .before .before .before .before .before .args .covers .now) (c .before .before .before .before .before .before .before .before .before .before .before .before .before .before .args .direction .now) (c .before .before .before .before .before .before .before .before .before .before .before .before .before .before .args .cover .now) (c .before .before .before .before .before .before .before .before .before .before .before .before .before .before .args .group .now) (c .before .before .before .before .before .before .before .before .before .before .before .before .before .before .args .water .now))) (length (c .before .before .before .before .before .before .before .before .before .before .before .before .before .before .args .soil .now) ∷ length (c .before .before .before .before .before .before .before .before .before .before .before .before .before .before .args .snow .now) ∷ []) (c .before .before .before .before .before .before .before .before .before .before .before .before .before .before .args .results .intercepted ∷ c .before .before .before .before .before .before .before .before .before .before .before .before .before .before .args .results .outflow ∷ c .before .before .before .before .before .before .before .before .before .before .before .before .before .before .args .results .evapotranspired ∷ c .before .before .before .before .before .before .before .before .before .before .before .before .before .before .args .results .recharged ∷ c .before .before .before .before .before .before .before .before .before .before .before .before .before .before .args .results .rejected ∷ []) ∙ and-second (oneEach (cells (setupOf (c .before .before .before .before .before .before .before .before .before .before .before .before .before .before .args .setup) (c .before .before .before .before .before .before .before .before .before .before .before .before .before .before .args .covers .now) (c .before .before .before .before .before .before .before .before .before .before .before .before .before .before .args .direction .now) (c .before .before .before .before .before .before .before .before .before .before .before .before .before .before .args .cover .now) (c .before .before .before .before .before .before .before .before .before .before .before .before .before .before .args .group .now) (c .before .before .before .before .before .before .before .before .before .before .before .before .before .before .args .water .now))) (setupLengths (setupOf (c .before .before .before .before .before .before .before .before .before .before .before .before .before .before .args .setup) (c .before .before .before .before .before .before .before .before .before .before .before .before .before .before .args .covers .now) (c .before .before .before .before .before .before .before .before .before .before .before .before .before .before .args .direction .now) (c .before .before .before .before .before .before .before .before .before .before .before .before .before .before .args .cover .now) (c .before .before .before .before .before .before .before .before .before .before .before .before .before .before .args .group .now) (c .before .before .before .before .before .before .before .before .before .before .before .before .before .before .args .water .now)))) _ (and-first _ _ (ap (λ (n : ℕ). oneEach n (length (c .before .before .before .before .before .before .before .before .before .before .before .before .before .before .args .soil .now) ∷ length (c .before .before .before .before .before .before .before .before .before .before .before .before .before .before .args .snow .now) ∷ [])) (sym (c .before .before .before .before .count .ensures)) ∙ (sym (c .before .stores-each .ensures) ∙ not-true _ (c .if3 .taken)))))) refl
+returns-2 : tie.Need-returns-2
+unfolding gridFits cells
+returns-2 c =
+    let at-stores-each = c .before in
+    let at-count = at-stores-each .before in
+    let at-if1 = at-count .before in
+    let at-grid-fits = at-if1 .before in
+    let a = at-grid-fits .before .before .before .before .before .before .before .before .args in
+    let s = setupOf (a .setup) (a .covers .now) (a .direction .now) (a .cover .now) (a .group .now) (a .water .now) in
+    let lentStores : List ℕ = length (a .soil .now) ∷ length (a .snow .now) ∷ [] in
+    let lentResults : List ℕ = a .results .intercepted ∷ a .results .outflow ∷ a .results .evapotranspired ∷ a .results .recharged ∷ a .results .rejected ∷ [] in
+    let st = stateOf (a .soil .now) (a .snow .now) (a .memory) (a .last) in
+    let d = dayIn (a .day) in
+    refuse-tests s (lentStores ++ lentResults) st d _ lent _ _ _
+    (more-bad s _ (sym (at-grid-fits .grid-fits .ensures) ∙ not-false _ (at-if1 .if1 .left))
+    (each-both (cells s) lentStores lentResults
+    ∙ and-first _ _ (ap (λ (n : ℕ). oneEach n lentStores) (sym (at-count .count .ensures)) ∙ sym (at-stores-each .stores-each .ensures) ∙ not-true _ (c .if2 .taken)))) refl
 
 results-each-requires : tie.Need-results-each-requires
 results-each-requires c κs = search needs
 
-returns-4 : tie.Need-returns-4
-unfolding gridFits cells setupLengths
-returns-4 c =
-    refuse-tests (setupOf (c .before .before .before .before .before .before .before .before .before .before .before .before .before .before .before .before .args .setup) (c .before .before .before .before .before .before .before .before .before .before .before .before .before .before .before .before .args .covers .now) (c .before .before .before .before .before .before .before .before .before .before .before .before .before .before .before .before .args .direction .now) (c .before .before .before .before .before .before .before .before .before .before .before .before .before .before .before .before .args .cover .now) (c .before .before .before .before .before .before .before .before .before .before .before .before .before .before .before .before .args .group .now) (c .before .before .before .before .before .before .before .before .before .before .before .before .before .before .before .before .args .water .now)) (lentLengths (setupOf (c .before .before .before .before .before .before .before .before .before .before .before .before .before .before .before .before .args .setup) (c .before .before .before .before .before .before .before .before .before .before .before .before .before .before .before .before .args .covers .now) (c .before .before .before .before .before .before .before .before .before .before .before .before .before .before .before .before .args .direction .now) (c .before .before .before .before .before .before .before .before .before .before .before .before .before .before .before .before .args .cover .now) (c .before .before .before .before .before .before .before .before .before .before .before .before .before .before .before .before .args .group .now) (c .before .before .before .before .before .before .before .before .before .before .before .before .before .before .before .before .args .water .now)) (c .before .before .before .before .before .before .before .before .before .before .before .before .before .before .before .before .args .soil .now) (c .before .before .before .before .before .before .before .before .before .before .before .before .before .before .before .before .args .snow .now) (c .before .before .before .before .before .before .before .before .before .before .before .before .before .before .before .before .args .results)) (stateOf (c .before .before .before .before .before .before .before .before .before .before .before .before .before .before .before .before .args .soil .now) (c .before .before .before .before .before .before .before .before .before .before .before .before .before .before .before .before .args .snow .now) (c .before .before .before .before .before .before .before .before .before .before .before .before .before .before .before .before .args .memory) (c .before .before .before .before .before .before .before .before .before .before .before .before .before .before .before .before .args .last)) (dayIn (c .before .before .before .before .before .before .before .before .before .before .before .before .before .before .before .before .args .day)) _ lent _ _ _
-    (lent-bad (setupOf (c .before .before .before .before .before .before .before .before .before .before .before .before .before .before .before .before .args .setup) (c .before .before .before .before .before .before .before .before .before .before .before .before .before .before .before .before .args .covers .now) (c .before .before .before .before .before .before .before .before .before .before .before .before .before .before .before .before .args .direction .now) (c .before .before .before .before .before .before .before .before .before .before .before .before .before .before .before .before .args .cover .now) (c .before .before .before .before .before .before .before .before .before .before .before .before .before .before .before .before .args .group .now) (c .before .before .before .before .before .before .before .before .before .before .before .before .before .before .before .before .args .water .now)) (lentLengths (setupOf (c .before .before .before .before .before .before .before .before .before .before .before .before .before .before .before .before .args .setup) (c .before .before .before .before .before .before .before .before .before .before .before .before .before .before .before .before .args .covers .now) (c .before .before .before .before .before .before .before .before .before .before .before .before .before .before .before .before .args .direction .now) (c .before .before .before .before .before .before .before .before .before .before .before .before .before .before .before .before .args .cover .now) (c .before .before .before .before .before .before .before .before .before .before .before .before .before .before .before .before .args .group .now) (c .before .before .before .before .before .before .before .before .before .before .before .before .before .before .before .before .args .water .now)) (c .before .before .before .before .before .before .before .before .before .before .before .before .before .before .before .before .args .soil .now) (c .before .before .before .before .before .before .before .before .before .before .before .before .before .before .before .before .args .snow .now) (c .before .before .before .before .before .before .before .before .before .before .before .before .before .before .before .before .args .results)) (sym (c .before .before .before .before .before .before .before .before .grid-fits .ensures) ∙ not-false _ (c .before .before .before .before .before .before .before .if1 .left))
-    (each-three (cells (setupOf (c .before .before .before .before .before .before .before .before .before .before .before .before .before .before .before .before .args .setup) (c .before .before .before .before .before .before .before .before .before .before .before .before .before .before .before .before .args .covers .now) (c .before .before .before .before .before .before .before .before .before .before .before .before .before .before .before .before .args .direction .now) (c .before .before .before .before .before .before .before .before .before .before .before .before .before .before .before .before .args .cover .now) (c .before .before .before .before .before .before .before .before .before .before .before .before .before .before .before .before .args .group .now) (c .before .before .before .before .before .before .before .before .before .before .before .before .before .before .before .before .args .water .now))) (setupLengths (setupOf (c .before .before .before .before .before .before .before .before .before .before .before .before .before .before .before .before .args .setup) (c .before .before .before .before .before .before .before .before .before .before .before .before .before .before .before .before .args .covers .now) (c .before .before .before .before .before .before .before .before .before .before .before .before .before .before .before .before .args .direction .now) (c .before .before .before .before .before .before .before .before .before .before .before .before .before .before .before .before .args .cover .now) (c .before .before .before .before .before .before .before .before .before .before .before .before .before .before .before .before .args .group .now) (c .before .before .before .before .before .before .before .before .before .before .before .before .before .before .before .before .args .water .now))) (length (c .before .before .before .before .before .before .before .before .before .before .before .before .before .before .before .before .args .soil .now) ∷ length (c .before .before .before .before .before .before .before .before .before .before .before .before .before .before .before .before .args .snow .now) ∷ []) (c .before .before .before .before .before .before .before .before .before .before .before .before .before .before .before .before .args .results .intercepted ∷ c .before .before .before .before .before .before .before .before .before .before .before .before .before .before .before .before .args .results .outflow ∷ c .before .before .before .before .before .before .before .before .before .before .before .before .before .before .before .before .args .results .evapotranspired ∷ c .before .before .before .before .before .before .before .before .before .before .before .before .before .before .before .before .args .results .recharged ∷ c .before .before .before .before .before .before .before .before .before .before .before .before .before .before .before .before .args .results .rejected ∷ []) ∙ and-second (oneEach (cells (setupOf (c .before .before .before .before .before .before .before .before .before .before .before .before .before .before .before .before .args .setup) (c .before .before .before .before .before .before .before .before .before .before .before .before .before .before .before .before .args .covers .now) (c .before .before .before .before .before .before .before .before .before .before .before .before .before .before .before .before .args .direction .now) (c .before .before .before .before .before .before .before .before .before .before .before .before .before .before .before .before .args .cover .now) (c .before .before .before .before .before .before .before .before .before .before .before .before .before .before .before .before .args .group .now) (c .before .before .before .before .before .before .before .before .before .before .before .before .before .before .before .before .args .water .now))) (setupLengths (setupOf (c .before .before .before .before .before .before .before .before .before .before .before .before .before .before .before .before .args .setup) (c .before .before .before .before .before .before .before .before .before .before .before .before .before .before .before .before .args .covers .now) (c .before .before .before .before .before .before .before .before .before .before .before .before .before .before .before .before .args .direction .now) (c .before .before .before .before .before .before .before .before .before .before .before .before .before .before .before .before .args .cover .now) (c .before .before .before .before .before .before .before .before .before .before .before .before .before .before .before .before .args .group .now) (c .before .before .before .before .before .before .before .before .before .before .before .before .before .before .before .before .args .water .now)))) _ (and-second (oneEach (cells (setupOf (c .before .before .before .before .before .before .before .before .before .before .before .before .before .before .before .before .args .setup) (c .before .before .before .before .before .before .before .before .before .before .before .before .before .before .before .before .args .covers .now) (c .before .before .before .before .before .before .before .before .before .before .before .before .before .before .before .before .args .direction .now) (c .before .before .before .before .before .before .before .before .before .before .before .before .before .before .before .before .args .cover .now) (c .before .before .before .before .before .before .before .before .before .before .before .before .before .before .before .before .args .group .now) (c .before .before .before .before .before .before .before .before .before .before .before .before .before .before .before .before .args .water .now))) (length (c .before .before .before .before .before .before .before .before .before .before .before .before .before .before .before .before .args .soil .now) ∷ length (c .before .before .before .before .before .before .before .before .before .before .before .before .before .before .before .before .args .snow .now) ∷ [])) _ (ap (λ (n : ℕ). oneEach n (c .before .before .before .before .before .before .before .before .before .before .before .before .before .before .before .before .args .results .intercepted ∷ c .before .before .before .before .before .before .before .before .before .before .before .before .before .before .before .before .args .results .outflow ∷ c .before .before .before .before .before .before .before .before .before .before .before .before .before .before .before .before .args .results .evapotranspired ∷ c .before .before .before .before .before .before .before .before .before .before .before .before .before .before .before .before .args .results .recharged ∷ c .before .before .before .before .before .before .before .before .before .before .before .before .before .before .before .before .args .results .rejected ∷ [])) (sym (c .before .before .before .before .before .before .count .ensures)) ∙ (sym (c .before .results-each .ensures) ∙ not-true _ (c .if4 .taken)))))) refl
+returns-3 : tie.Need-returns-3
+unfolding gridFits cells
+returns-3 c =
+    let at-results-each = c .before in
+    let at-count = at-results-each .before .before .before in
+    let at-if1 = at-count .before in
+    let at-grid-fits = at-if1 .before in
+    let a = at-grid-fits .before .before .before .before .before .before .before .before .args in
+    let s = setupOf (a .setup) (a .covers .now) (a .direction .now) (a .cover .now) (a .group .now) (a .water .now) in
+    let lentStores : List ℕ = length (a .soil .now) ∷ length (a .snow .now) ∷ [] in
+    let lentResults : List ℕ = a .results .intercepted ∷ a .results .outflow ∷ a .results .evapotranspired ∷ a .results .recharged ∷ a .results .rejected ∷ [] in
+    let st = stateOf (a .soil .now) (a .snow .now) (a .memory) (a .last) in
+    let d = dayIn (a .day) in
+    refuse-tests s (lentStores ++ lentResults) st d _ lent _ _ _
+    (more-bad s _ (sym (at-grid-fits .grid-fits .ensures) ∙ not-false _ (at-if1 .if1 .left))
+    (each-both (cells s) lentStores lentResults
+    ∙ and-second (oneEach (cells s) lentStores) _ (ap (λ (n : ℕ). oneEach n lentResults) (sym (at-count .count .ensures)) ∙ sym (at-results-each .results-each .ensures) ∙ not-true _ (c .if3 .taken)))) refl
 
 survey-requires : tie.Need-survey-requires
-unfolding gridFits cells setupLengths
-survey-requires c κs =
-    blank-arrays (setupOf (c .before .before .before .before .before .before .before .before .before .before .before .before .before .before .before .before .before .before .before .args .setup) (c .before .before .before .before .before .before .before .before .before .before .before .before .before .before .before .before .before .before .before .args .covers .now) (c .before .before .before .before .before .before .before .before .before .before .before .before .before .before .before .before .before .before .before .args .direction .now) (c .before .before .before .before .before .before .before .before .before .before .before .before .before .before .before .before .before .before .before .args .cover .now) (c .before .before .before .before .before .before .before .before .before .before .before .before .before .before .before .before .before .before .before .args .group .now) (c .before .before .before .before .before .before .before .before .before .before .before .before .before .before .before .before .before .before .before .args .water .now)) _ _ _ (c .before .before .before .before .before .before .before .before .before .before .before .before .before .before .before .before .before .before .before .pre .0) (c .before .before .before .before .before .before .before .before .before .before .before .before .before .before .before .before .before .before .before .pre .1) (c .before .before .before .before .before .before .before .before .before .before .before .before .before .before .before .before .before .before .before .pre .2)
-    (surveyable (setupOf (c .before .before .before .before .before .before .before .before .before .before .before .before .before .before .before .before .before .before .before .args .setup) (c .before .before .before .before .before .before .before .before .before .before .before .before .before .before .before .before .before .before .before .args .covers .now) (c .before .before .before .before .before .before .before .before .before .before .before .before .before .before .before .before .before .before .before .args .direction .now) (c .before .before .before .before .before .before .before .before .before .before .before .before .before .before .before .before .before .before .before .args .cover .now) (c .before .before .before .before .before .before .before .before .before .before .before .before .before .before .before .before .before .before .before .args .group .now) (c .before .before .before .before .before .before .before .before .before .before .before .before .before .before .before .before .before .before .before .args .water .now)) ((length (c .before .before .before .before .before .before .before .before .before .before .before .before .before .before .before .before .before .before .before .args .soil .now) ∷ length (c .before .before .before .before .before .before .before .before .before .before .before .before .before .before .before .before .before .before .before .args .snow .now) ∷ []) ++ (c .before .before .before .before .before .before .before .before .before .before .before .before .before .before .before .before .before .before .before .args .results .intercepted ∷ c .before .before .before .before .before .before .before .before .before .before .before .before .before .before .before .before .before .before .before .args .results .outflow ∷ c .before .before .before .before .before .before .before .before .before .before .before .before .before .before .before .before .before .before .before .args .results .evapotranspired ∷ c .before .before .before .before .before .before .before .before .before .before .before .before .before .before .before .before .before .before .before .args .results .recharged ∷ c .before .before .before .before .before .before .before .before .before .before .before .before .before .before .before .before .before .before .before .args .results .rejected ∷ [])) (sym (c .before .before .before .before .before .before .before .before .before .before .before .grid-fits .ensures) ∙ not-false _ (c .before .before .before .before .before .before .before .before .before .before .if1 .left))
-    (each-three (cells (setupOf (c .before .before .before .before .before .before .before .before .before .before .before .before .before .before .before .before .before .before .before .args .setup) (c .before .before .before .before .before .before .before .before .before .before .before .before .before .before .before .before .before .before .before .args .covers .now) (c .before .before .before .before .before .before .before .before .before .before .before .before .before .before .before .before .before .before .before .args .direction .now) (c .before .before .before .before .before .before .before .before .before .before .before .before .before .before .before .before .before .before .before .args .cover .now) (c .before .before .before .before .before .before .before .before .before .before .before .before .before .before .before .before .before .before .before .args .group .now) (c .before .before .before .before .before .before .before .before .before .before .before .before .before .before .before .before .before .before .before .args .water .now))) (setupLengths (setupOf (c .before .before .before .before .before .before .before .before .before .before .before .before .before .before .before .before .before .before .before .args .setup) (c .before .before .before .before .before .before .before .before .before .before .before .before .before .before .before .before .before .before .before .args .covers .now) (c .before .before .before .before .before .before .before .before .before .before .before .before .before .before .before .before .before .before .before .args .direction .now) (c .before .before .before .before .before .before .before .before .before .before .before .before .before .before .before .before .before .before .before .args .cover .now) (c .before .before .before .before .before .before .before .before .before .before .before .before .before .before .before .before .before .before .before .args .group .now) (c .before .before .before .before .before .before .before .before .before .before .before .before .before .before .before .before .before .before .before .args .water .now))) (length (c .before .before .before .before .before .before .before .before .before .before .before .before .before .before .before .before .before .before .before .args .soil .now) ∷ length (c .before .before .before .before .before .before .before .before .before .before .before .before .before .before .before .before .before .before .before .args .snow .now) ∷ []) (c .before .before .before .before .before .before .before .before .before .before .before .before .before .before .before .before .before .before .before .args .results .intercepted ∷ c .before .before .before .before .before .before .before .before .before .before .before .before .before .before .before .before .before .before .before .args .results .outflow ∷ c .before .before .before .before .before .before .before .before .before .before .before .before .before .before .before .before .before .before .before .args .results .evapotranspired ∷ c .before .before .before .before .before .before .before .before .before .before .before .before .before .before .before .before .before .before .before .args .results .recharged ∷ c .before .before .before .before .before .before .before .before .before .before .before .before .before .before .before .before .before .before .before .args .results .rejected ∷ []) ∙ and-both _ _ (ap (λ (n : ℕ). oneEach n (setupLengths (setupOf (c .before .before .before .before .before .before .before .before .before .before .before .before .before .before .before .before .before .before .before .args .setup) (c .before .before .before .before .before .before .before .before .before .before .before .before .before .before .before .before .before .before .before .args .covers .now) (c .before .before .before .before .before .before .before .before .before .before .before .before .before .before .before .before .before .before .before .args .direction .now) (c .before .before .before .before .before .before .before .before .before .before .before .before .before .before .before .before .before .before .before .args .cover .now) (c .before .before .before .before .before .before .before .before .before .before .before .before .before .before .before .before .before .before .before .args .group .now) (c .before .before .before .before .before .before .before .before .before .before .before .before .before .before .before .before .before .before .before .args .water .now)))) (sym (c .before .before .before .before .before .before .before .before .before .count .ensures)) ∙ (sym (c .before .before .before .before .before .before .before .before .setup-each .ensures) ∙ not-false _ (c .before .before .before .before .before .before .before .if2 .left))) (and-both _ _ (ap (λ (n : ℕ). oneEach n (length (c .before .before .before .before .before .before .before .before .before .before .before .before .before .before .before .before .before .before .before .args .soil .now) ∷ length (c .before .before .before .before .before .before .before .before .before .before .before .before .before .before .before .before .before .before .before .args .snow .now) ∷ [])) (sym (c .before .before .before .before .before .before .before .before .before .count .ensures)) ∙ (sym (c .before .before .before .before .before .before .stores-each .ensures) ∙ not-false _ (c .before .before .before .before .before .if3 .left))) (ap (λ (n : ℕ). oneEach n (c .before .before .before .before .before .before .before .before .before .before .before .before .before .before .before .before .before .before .before .args .results .intercepted ∷ c .before .before .before .before .before .before .before .before .before .before .before .before .before .before .before .before .before .before .before .args .results .outflow ∷ c .before .before .before .before .before .before .before .before .before .before .before .before .before .before .before .before .before .before .before .args .results .evapotranspired ∷ c .before .before .before .before .before .before .before .before .before .before .before .before .before .before .before .before .before .before .before .args .results .recharged ∷ c .before .before .before .before .before .before .before .before .before .before .before .before .before .before .before .before .before .before .before .args .results .rejected ∷ [])) (sym (c .before .before .before .before .before .before .before .before .before .count .ensures)) ∙ (sym (c .before .before .before .before .results-each .ensures) ∙ not-false _ (c .before .before .before .if4 .left))))))
+survey-requires c κs = search needs
 
 enum-told : tie.Need-enum-told
 enum-told c = search needs
 
-returns-5 : tie.Need-returns-5
-unfolding gridFits cells setupLengths
-returns-5 c =
-    survey-refuses (setupOf (c .before .before .before .before .before .before .before .before .before .before .before .before .before .before .before .before .before .before .before .before .before .args .setup) (c .before .before .before .before .before .before .before .before .before .before .before .before .before .before .before .before .before .before .before .before .before .args .covers .now) (c .before .before .before .before .before .before .before .before .before .before .before .before .before .before .before .before .before .before .before .before .before .args .direction .now) (c .before .before .before .before .before .before .before .before .before .before .before .before .before .before .before .before .before .before .before .before .before .args .cover .now) (c .before .before .before .before .before .before .before .before .before .before .before .before .before .before .before .before .before .before .before .before .before .args .group .now) (c .before .before .before .before .before .before .before .before .before .before .before .before .before .before .before .before .before .before .before .before .before .args .water .now)) (lentLengths (setupOf (c .before .before .before .before .before .before .before .before .before .before .before .before .before .before .before .before .before .before .before .before .before .args .setup) (c .before .before .before .before .before .before .before .before .before .before .before .before .before .before .before .before .before .before .before .before .before .args .covers .now) (c .before .before .before .before .before .before .before .before .before .before .before .before .before .before .before .before .before .before .before .before .before .args .direction .now) (c .before .before .before .before .before .before .before .before .before .before .before .before .before .before .before .before .before .before .before .before .before .args .cover .now) (c .before .before .before .before .before .before .before .before .before .before .before .before .before .before .before .before .before .before .before .before .before .args .group .now) (c .before .before .before .before .before .before .before .before .before .before .before .before .before .before .before .before .before .before .before .before .before .args .water .now)) (c .before .before .before .before .before .before .before .before .before .before .before .before .before .before .before .before .before .before .before .before .before .args .soil .now) (c .before .before .before .before .before .before .before .before .before .before .before .before .before .before .before .before .before .before .before .before .before .args .snow .now) (c .before .before .before .before .before .before .before .before .before .before .before .before .before .before .before .before .before .before .before .before .before .args .results)) (stateOf (c .before .before .before .before .before .before .before .before .before .before .before .before .before .before .before .before .before .before .before .before .before .args .soil .now) (c .before .before .before .before .before .before .before .before .before .before .before .before .before .before .before .before .before .before .before .before .before .args .snow .now) (c .before .before .before .before .before .before .before .before .before .before .before .before .before .before .before .before .before .before .before .before .before .args .memory) (c .before .before .before .before .before .before .before .before .before .before .before .before .before .before .before .before .before .before .before .before .before .args .last)) (dayIn (c .before .before .before .before .before .before .before .before .before .before .before .before .before .before .before .before .before .before .before .before .before .args .day)) (sym (c .before .before .before .before .before .before .before .before .before .before .before .before .before .grid-fits .ensures) ∙ not-false _ (c .before .before .before .before .before .before .before .before .before .before .before .before .if1 .left))
-    (each-three (cells (setupOf (c .before .before .before .before .before .before .before .before .before .before .before .before .before .before .before .before .before .before .before .before .before .args .setup) (c .before .before .before .before .before .before .before .before .before .before .before .before .before .before .before .before .before .before .before .before .before .args .covers .now) (c .before .before .before .before .before .before .before .before .before .before .before .before .before .before .before .before .before .before .before .before .before .args .direction .now) (c .before .before .before .before .before .before .before .before .before .before .before .before .before .before .before .before .before .before .before .before .before .args .cover .now) (c .before .before .before .before .before .before .before .before .before .before .before .before .before .before .before .before .before .before .before .before .before .args .group .now) (c .before .before .before .before .before .before .before .before .before .before .before .before .before .before .before .before .before .before .before .before .before .args .water .now))) (setupLengths (setupOf (c .before .before .before .before .before .before .before .before .before .before .before .before .before .before .before .before .before .before .before .before .before .args .setup) (c .before .before .before .before .before .before .before .before .before .before .before .before .before .before .before .before .before .before .before .before .before .args .covers .now) (c .before .before .before .before .before .before .before .before .before .before .before .before .before .before .before .before .before .before .before .before .before .args .direction .now) (c .before .before .before .before .before .before .before .before .before .before .before .before .before .before .before .before .before .before .before .before .before .args .cover .now) (c .before .before .before .before .before .before .before .before .before .before .before .before .before .before .before .before .before .before .before .before .before .args .group .now) (c .before .before .before .before .before .before .before .before .before .before .before .before .before .before .before .before .before .before .before .before .before .args .water .now))) (length (c .before .before .before .before .before .before .before .before .before .before .before .before .before .before .before .before .before .before .before .before .before .args .soil .now) ∷ length (c .before .before .before .before .before .before .before .before .before .before .before .before .before .before .before .before .before .before .before .before .before .args .snow .now) ∷ []) (c .before .before .before .before .before .before .before .before .before .before .before .before .before .before .before .before .before .before .before .before .before .args .results .intercepted ∷ c .before .before .before .before .before .before .before .before .before .before .before .before .before .before .before .before .before .before .before .before .before .args .results .outflow ∷ c .before .before .before .before .before .before .before .before .before .before .before .before .before .before .before .before .before .before .before .before .before .args .results .evapotranspired ∷ c .before .before .before .before .before .before .before .before .before .before .before .before .before .before .before .before .before .before .before .before .before .args .results .recharged ∷ c .before .before .before .before .before .before .before .before .before .before .before .before .before .before .before .before .before .before .before .before .before .args .results .rejected ∷ []) ∙ and-both _ _ (ap (λ (n : ℕ). oneEach n (setupLengths (setupOf (c .before .before .before .before .before .before .before .before .before .before .before .before .before .before .before .before .before .before .before .before .before .args .setup) (c .before .before .before .before .before .before .before .before .before .before .before .before .before .before .before .before .before .before .before .before .before .args .covers .now) (c .before .before .before .before .before .before .before .before .before .before .before .before .before .before .before .before .before .before .before .before .before .args .direction .now) (c .before .before .before .before .before .before .before .before .before .before .before .before .before .before .before .before .before .before .before .before .before .args .cover .now) (c .before .before .before .before .before .before .before .before .before .before .before .before .before .before .before .before .before .before .before .before .before .args .group .now) (c .before .before .before .before .before .before .before .before .before .before .before .before .before .before .before .before .before .before .before .before .before .args .water .now)))) (sym (c .before .before .before .before .before .before .before .before .before .before .before .count .ensures)) ∙ (sym (c .before .before .before .before .before .before .before .before .before .before .setup-each .ensures) ∙ not-false _ (c .before .before .before .before .before .before .before .before .before .if2 .left))) (and-both _ _ (ap (λ (n : ℕ). oneEach n (length (c .before .before .before .before .before .before .before .before .before .before .before .before .before .before .before .before .before .before .before .before .before .args .soil .now) ∷ length (c .before .before .before .before .before .before .before .before .before .before .before .before .before .before .before .before .before .before .before .before .before .args .snow .now) ∷ [])) (sym (c .before .before .before .before .before .before .before .before .before .before .before .count .ensures)) ∙ (sym (c .before .before .before .before .before .before .before .before .stores-each .ensures) ∙ not-false _ (c .before .before .before .before .before .before .before .if3 .left))) (ap (λ (n : ℕ). oneEach n (c .before .before .before .before .before .before .before .before .before .before .before .before .before .before .before .before .before .before .before .before .before .args .results .intercepted ∷ c .before .before .before .before .before .before .before .before .before .before .before .before .before .before .before .before .before .before .before .before .before .args .results .outflow ∷ c .before .before .before .before .before .before .before .before .before .before .before .before .before .before .before .before .before .before .before .before .before .args .results .evapotranspired ∷ c .before .before .before .before .before .before .before .before .before .before .before .before .before .before .before .before .before .before .before .before .before .args .results .recharged ∷ c .before .before .before .before .before .before .before .before .before .before .before .before .before .before .before .before .before .before .before .before .before .args .results .rejected ∷ [])) (sym (c .before .before .before .before .before .before .before .before .before .before .before .count .ensures)) ∙ (sym (c .before .before .before .before .before .before .results-each .ensures) ∙ not-false _ (c .before .before .before .before .before .if4 .left))))) _ _ _ _ (c .before .survey .ensures .outcome)
+returns-4 : tie.Need-returns-4
+unfolding gridFits cells
+returns-4 c =
+    let at-survey = c .before in
+    let at-if3 = at-survey .before .before .before .before in
+    let at-results-each = at-if3 .before in
+    let at-if2 = at-results-each .before in
+    let at-stores-each = at-if2 .before in
+    let at-count = at-stores-each .before in
+    let at-if1 = at-count .before in
+    let at-grid-fits = at-if1 .before in
+    let a = at-grid-fits .before .before .before .before .before .before .before .before .args in
+    let s = setupOf (a .setup) (a .covers .now) (a .direction .now) (a .cover .now) (a .group .now) (a .water .now) in
+    let lentStores : List ℕ = length (a .soil .now) ∷ length (a .snow .now) ∷ [] in
+    let lentResults : List ℕ = a .results .intercepted ∷ a .results .outflow ∷ a .results .evapotranspired ∷ a .results .recharged ∷ a .results .rejected ∷ [] in
+    let st = stateOf (a .soil .now) (a .snow .now) (a .memory) (a .last) in
+    let d = dayIn (a .day) in
+    let fits : oneEach (cells s) (lentStores ++ lentResults) ≡ true
+    = each-both (cells s) lentStores lentResults
+    ∙ and-both _ _ (ap (λ (n : ℕ). oneEach n lentStores) (sym (at-count .count .ensures)) ∙ sym (at-stores-each .stores-each .ensures) ∙ not-false _ (at-if2 .if2 .left))
+    (ap (λ (n : ℕ). oneEach n lentResults) (sym (at-count .count .ensures)) ∙ sym (at-results-each .results-each .ensures) ∙ not-false _ (at-if3 .if3 .left)) in
+    survey-refuses s (lentStores ++ lentResults) st d fits _ _ _ _ (at-survey .survey .ensures .outcome)
     (λ e. miss (1 ∷ 2 ∷ 3 ∷ 4 ∷ 5 ∷ 6 ∷ 7 ∷ 8 ∷ 9 ∷ 10 ∷ []) 0 tt (rw e at (c .match .keys2)))
 
 day-tests-requires : tie.Need-day-tests-requires
-unfolding gridFits cells setupLengths
+unfolding gridFits cells
 day-tests-requires c κs =
+    let at-enum-told = c .before in
+    let at-survey = at-enum-told .before .before in
+    let at-if2 = at-survey .before .before .before .before .before .before in
+    let at-stores-each = at-if2 .before in
+    let at-count = at-stores-each .before in
+    let at-if1 = at-count .before in
+    let at-grid-fits = at-if1 .before in
+    let a = at-grid-fits .before .before .before .before .before .before .before .before .args in
+    let s = setupOf (a .setup) (a .covers .now) (a .direction .now) (a .cover .now) (a .group .now) (a .water .now) in
+    let lentStores : List ℕ = length (a .soil .now) ∷ length (a .snow .now) ∷ [] in
+    let passed : checkOf s ≡ accepted = accepted-back _ (sym (at-enum-told .enum-told .given .1) ∙ at-survey .survey .ensures .outcome) in
+    let each : (length (a .soil .now) ≡ cells s) × (length (a .snow .now) ≡ cells s)
+    = two-each _ _ _ (ap (λ (n : ℕ). oneEach n lentStores) (sym (at-count .count .ensures)) ∙ sym (at-stores-each .stores-each .ensures) ∙ not-false _ (at-if2 .if2 .left)) in
     record {
-      grid = (sym (c .before .before .before .before .before .before .before .before .before .before .before .before .before .before .before .grid-fits .ensures) ∙ not-false _ (c .before .before .before .before .before .before .before .before .before .before .before .before .before .before .if1 .left));
-      each = (ap (λ (n : ℕ). oneEach n (setupLengths (setupOf (c .before .before .before .before .before .before .before .before .before .before .before .before .before .before .before .before .before .before .before .before .before .before .before .args .setup) (c .before .before .before .before .before .before .before .before .before .before .before .before .before .before .before .before .before .before .before .before .before .before .before .args .covers .now) (c .before .before .before .before .before .before .before .before .before .before .before .before .before .before .before .before .before .before .before .before .before .before .before .args .direction .now) (c .before .before .before .before .before .before .before .before .before .before .before .before .before .before .before .before .before .before .before .before .before .before .before .args .cover .now) (c .before .before .before .before .before .before .before .before .before .before .before .before .before .before .before .before .before .before .before .before .before .before .before .args .group .now) (c .before .before .before .before .before .before .before .before .before .before .before .before .before .before .before .before .before .before .before .before .before .before .before .args .water .now)))) (sym (c .before .before .before .before .before .before .before .before .before .before .before .before .before .count .ensures)) ∙ (sym (c .before .before .before .before .before .before .before .before .before .before .before .before .setup-each .ensures) ∙ not-false _ (c .before .before .before .before .before .before .before .before .before .before .before .if2 .left)));
-      map = (accepted-back _ (sym (c .before .enum-told .given .1) ∙ c .before .before .before .survey .ensures .outcome));
-      slots-are = c .before .before .before .survey .ensures .mapped (accepted-back _ (sym (c .before .enum-told .given .1) ∙ c .before .before .before .survey .ensures .outcome)) .slots-are;
-      soils = two-each _ _ _ (ap (λ (n : ℕ). oneEach n (length (c .before .before .before .before .before .before .before .before .before .before .before .before .before .before .before .before .before .before .before .before .before .before .before .args .soil .now) ∷ length (c .before .before .before .before .before .before .before .before .before .before .before .before .before .before .before .before .before .before .before .before .before .before .before .args .snow .now) ∷ [])) (sym (c .before .before .before .before .before .before .before .before .before .before .before .before .before .count .ensures)) ∙ (sym (c .before .before .before .before .before .before .before .before .before .before .stores-each .ensures) ∙ not-false _ (c .before .before .before .before .before .before .before .before .before .if3 .left))) .0;
-      snows = two-each _ _ _ (ap (λ (n : ℕ). oneEach n (length (c .before .before .before .before .before .before .before .before .before .before .before .before .before .before .before .before .before .before .before .before .before .before .before .args .soil .now) ∷ length (c .before .before .before .before .before .before .before .before .before .before .before .before .before .before .before .before .before .before .before .before .before .before .before .args .snow .now) ∷ [])) (sym (c .before .before .before .before .before .before .before .before .before .before .before .before .before .count .ensures)) ∙ (sym (c .before .before .before .before .before .before .before .before .before .before .stores-each .ensures) ∙ not-false _ (c .before .before .before .before .before .before .before .before .before .if3 .left))) .1;
+      passed = passed;
+      slots-are = at-survey .survey .ensures .mapped passed .slots-are;
+      soils = each .0;
+      snows = each .1;
     }
 
-returns-6 : tie.Need-returns-6
-unfolding gridFits cells setupLengths
-returns-6 c =
-    day-decides (setupOf (c .before .before .before .before .before .before .before .before .before .before .before .before .before .before .before .before .before .before .before .before .before .before .before .before .args .setup) (c .before .before .before .before .before .before .before .before .before .before .before .before .before .before .before .before .before .before .before .before .before .before .before .before .args .covers .now) (c .before .before .before .before .before .before .before .before .before .before .before .before .before .before .before .before .before .before .before .before .before .before .before .before .args .direction .now) (c .before .before .before .before .before .before .before .before .before .before .before .before .before .before .before .before .before .before .before .before .before .before .before .before .args .cover .now) (c .before .before .before .before .before .before .before .before .before .before .before .before .before .before .before .before .before .before .before .before .before .before .before .before .args .group .now) (c .before .before .before .before .before .before .before .before .before .before .before .before .before .before .before .before .before .before .before .before .before .before .before .before .args .water .now)) (lentLengths (setupOf (c .before .before .before .before .before .before .before .before .before .before .before .before .before .before .before .before .before .before .before .before .before .before .before .before .args .setup) (c .before .before .before .before .before .before .before .before .before .before .before .before .before .before .before .before .before .before .before .before .before .before .before .before .args .covers .now) (c .before .before .before .before .before .before .before .before .before .before .before .before .before .before .before .before .before .before .before .before .before .before .before .before .args .direction .now) (c .before .before .before .before .before .before .before .before .before .before .before .before .before .before .before .before .before .before .before .before .before .before .before .before .args .cover .now) (c .before .before .before .before .before .before .before .before .before .before .before .before .before .before .before .before .before .before .before .before .before .before .before .before .args .group .now) (c .before .before .before .before .before .before .before .before .before .before .before .before .before .before .before .before .before .before .before .before .before .before .before .before .args .water .now)) (c .before .before .before .before .before .before .before .before .before .before .before .before .before .before .before .before .before .before .before .before .before .before .before .before .args .soil .now) (c .before .before .before .before .before .before .before .before .before .before .before .before .before .before .before .before .before .before .before .before .before .before .before .before .args .snow .now) (c .before .before .before .before .before .before .before .before .before .before .before .before .before .before .before .before .before .before .before .before .before .before .before .before .args .results)) (stateOf (c .before .before .before .before .before .before .before .before .before .before .before .before .before .before .before .before .before .before .before .before .before .before .before .before .args .soil .now) (c .before .before .before .before .before .before .before .before .before .before .before .before .before .before .before .before .before .before .before .before .before .before .before .before .args .snow .now) (c .before .before .before .before .before .before .before .before .before .before .before .before .before .before .before .before .before .before .before .before .before .before .before .before .args .memory) (c .before .before .before .before .before .before .before .before .before .before .before .before .before .before .before .before .before .before .before .before .before .before .before .before .args .last)) (dayIn (c .before .before .before .before .before .before .before .before .before .before .before .before .before .before .before .before .before .before .before .before .before .before .before .before .args .day)) (sym (c .before .before .before .before .before .before .before .before .before .before .before .before .before .before .before .before .grid-fits .ensures) ∙ not-false _ (c .before .before .before .before .before .before .before .before .before .before .before .before .before .before .before .if1 .left))
-    (each-three (cells (setupOf (c .before .before .before .before .before .before .before .before .before .before .before .before .before .before .before .before .before .before .before .before .before .before .before .before .args .setup) (c .before .before .before .before .before .before .before .before .before .before .before .before .before .before .before .before .before .before .before .before .before .before .before .before .args .covers .now) (c .before .before .before .before .before .before .before .before .before .before .before .before .before .before .before .before .before .before .before .before .before .before .before .before .args .direction .now) (c .before .before .before .before .before .before .before .before .before .before .before .before .before .before .before .before .before .before .before .before .before .before .before .before .args .cover .now) (c .before .before .before .before .before .before .before .before .before .before .before .before .before .before .before .before .before .before .before .before .before .before .before .before .args .group .now) (c .before .before .before .before .before .before .before .before .before .before .before .before .before .before .before .before .before .before .before .before .before .before .before .before .args .water .now))) (setupLengths (setupOf (c .before .before .before .before .before .before .before .before .before .before .before .before .before .before .before .before .before .before .before .before .before .before .before .before .args .setup) (c .before .before .before .before .before .before .before .before .before .before .before .before .before .before .before .before .before .before .before .before .before .before .before .before .args .covers .now) (c .before .before .before .before .before .before .before .before .before .before .before .before .before .before .before .before .before .before .before .before .before .before .before .before .args .direction .now) (c .before .before .before .before .before .before .before .before .before .before .before .before .before .before .before .before .before .before .before .before .before .before .before .before .args .cover .now) (c .before .before .before .before .before .before .before .before .before .before .before .before .before .before .before .before .before .before .before .before .before .before .before .before .args .group .now) (c .before .before .before .before .before .before .before .before .before .before .before .before .before .before .before .before .before .before .before .before .before .before .before .before .args .water .now))) (length (c .before .before .before .before .before .before .before .before .before .before .before .before .before .before .before .before .before .before .before .before .before .before .before .before .args .soil .now) ∷ length (c .before .before .before .before .before .before .before .before .before .before .before .before .before .before .before .before .before .before .before .before .before .before .before .before .args .snow .now) ∷ []) (c .before .before .before .before .before .before .before .before .before .before .before .before .before .before .before .before .before .before .before .before .before .before .before .before .args .results .intercepted ∷ c .before .before .before .before .before .before .before .before .before .before .before .before .before .before .before .before .before .before .before .before .before .before .before .before .args .results .outflow ∷ c .before .before .before .before .before .before .before .before .before .before .before .before .before .before .before .before .before .before .before .before .before .before .before .before .args .results .evapotranspired ∷ c .before .before .before .before .before .before .before .before .before .before .before .before .before .before .before .before .before .before .before .before .before .before .before .before .args .results .recharged ∷ c .before .before .before .before .before .before .before .before .before .before .before .before .before .before .before .before .before .before .before .before .before .before .before .before .args .results .rejected ∷ []) ∙ and-both _ _ (ap (λ (n : ℕ). oneEach n (setupLengths (setupOf (c .before .before .before .before .before .before .before .before .before .before .before .before .before .before .before .before .before .before .before .before .before .before .before .before .args .setup) (c .before .before .before .before .before .before .before .before .before .before .before .before .before .before .before .before .before .before .before .before .before .before .before .before .args .covers .now) (c .before .before .before .before .before .before .before .before .before .before .before .before .before .before .before .before .before .before .before .before .before .before .before .before .args .direction .now) (c .before .before .before .before .before .before .before .before .before .before .before .before .before .before .before .before .before .before .before .before .before .before .before .before .args .cover .now) (c .before .before .before .before .before .before .before .before .before .before .before .before .before .before .before .before .before .before .before .before .before .before .before .before .args .group .now) (c .before .before .before .before .before .before .before .before .before .before .before .before .before .before .before .before .before .before .before .before .before .before .before .before .args .water .now)))) (sym (c .before .before .before .before .before .before .before .before .before .before .before .before .before .before .count .ensures)) ∙ (sym (c .before .before .before .before .before .before .before .before .before .before .before .before .before .setup-each .ensures) ∙ not-false _ (c .before .before .before .before .before .before .before .before .before .before .before .before .if2 .left))) (and-both _ _ (ap (λ (n : ℕ). oneEach n (length (c .before .before .before .before .before .before .before .before .before .before .before .before .before .before .before .before .before .before .before .before .before .before .before .before .args .soil .now) ∷ length (c .before .before .before .before .before .before .before .before .before .before .before .before .before .before .before .before .before .before .before .before .before .before .before .before .args .snow .now) ∷ [])) (sym (c .before .before .before .before .before .before .before .before .before .before .before .before .before .before .count .ensures)) ∙ (sym (c .before .before .before .before .before .before .before .before .before .before .before .stores-each .ensures) ∙ not-false _ (c .before .before .before .before .before .before .before .before .before .before .if3 .left))) (ap (λ (n : ℕ). oneEach n (c .before .before .before .before .before .before .before .before .before .before .before .before .before .before .before .before .before .before .before .before .before .before .before .before .args .results .intercepted ∷ c .before .before .before .before .before .before .before .before .before .before .before .before .before .before .before .before .before .before .before .before .before .before .before .before .args .results .outflow ∷ c .before .before .before .before .before .before .before .before .before .before .before .before .before .before .before .before .before .before .before .before .before .before .before .before .args .results .evapotranspired ∷ c .before .before .before .before .before .before .before .before .before .before .before .before .before .before .before .before .before .before .before .before .before .before .before .before .args .results .recharged ∷ c .before .before .before .before .before .before .before .before .before .before .before .before .before .before .before .before .before .before .before .before .before .before .before .before .args .results .rejected ∷ [])) (sym (c .before .before .before .before .before .before .before .before .before .before .before .before .before .before .count .ensures)) ∙ (sym (c .before .before .before .before .before .before .before .before .before .results-each .ensures) ∙ not-false _ (c .before .before .before .before .before .before .before .before .if4 .left))))) _ _ _ _ (accepted-back _ (sym (c .before .before .enum-told .given .1) ∙ c .before .before .before .before .survey .ensures .outcome)) (c .day-tests .ensures) (c .before .before .before .before .survey .ensures .mapped (accepted-back _ (sym (c .before .before .enum-told .given .1) ∙ c .before .before .before .before .survey .ensures .outcome)))
+returns-5 : tie.Need-returns-5
+unfolding gridFits cells
+returns-5 c =
+    let at-enum-told = c .before .before in
+    let at-survey = at-enum-told .before .before in
+    let at-if3 = at-survey .before .before .before .before in
+    let at-results-each = at-if3 .before in
+    let at-if2 = at-results-each .before in
+    let at-stores-each = at-if2 .before in
+    let at-count = at-stores-each .before in
+    let at-if1 = at-count .before in
+    let at-grid-fits = at-if1 .before in
+    let a = at-grid-fits .before .before .before .before .before .before .before .before .args in
+    let s = setupOf (a .setup) (a .covers .now) (a .direction .now) (a .cover .now) (a .group .now) (a .water .now) in
+    let lentStores : List ℕ = length (a .soil .now) ∷ length (a .snow .now) ∷ [] in
+    let lentResults : List ℕ = a .results .intercepted ∷ a .results .outflow ∷ a .results .evapotranspired ∷ a .results .recharged ∷ a .results .rejected ∷ [] in
+    let st = stateOf (a .soil .now) (a .snow .now) (a .memory) (a .last) in
+    let d = dayIn (a .day) in
+    let fits : oneEach (cells s) (lentStores ++ lentResults) ≡ true
+    = each-both (cells s) lentStores lentResults
+    ∙ and-both _ _ (ap (λ (n : ℕ). oneEach n lentStores) (sym (at-count .count .ensures)) ∙ sym (at-stores-each .stores-each .ensures) ∙ not-false _ (at-if2 .if2 .left))
+    (ap (λ (n : ℕ). oneEach n lentResults) (sym (at-count .count .ensures)) ∙ sym (at-results-each .results-each .ensures) ∙ not-false _ (at-if3 .if3 .left)) in
+    let passed : checkOf s ≡ accepted = accepted-back _ (sym (at-enum-told .enum-told .given .1) ∙ at-survey .survey .ensures .outcome) in
+    day-decides s (lentStores ++ lentResults) st d fits _ _ _ _ passed (c .day-tests .ensures) (at-survey .survey .ensures .mapped passed)
 
 pub tests-spec : {M : Type 1} → statement M
 tests-spec =
@@ -99,14 +164,12 @@ tests-spec =
     grid-fits-requires
     returns
     count-requires
-    setup-each-requires
-    returns-2
     stores-each-requires
-    returns-3
+    returns-2
     results-each-requires
-    returns-4
+    returns-3
     survey-requires
     enum-told
-    returns-5
+    returns-4
     day-tests-requires
-    returns-6)
+    returns-5)

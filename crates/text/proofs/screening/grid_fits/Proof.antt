@@ -4,7 +4,7 @@ use borrow.Author.Needs.{needs}
 use Rattle.text.proofs.screening.grid_fits.Statement.{statement}
 use Rattle.text.proofs.screening.grid_fits.Tie as tie
 use borrow.Author.Tests.{le-leb, lt-leb}
-use Rattle.recharge.proofs.LimitLaws.{by-quotient}
+use Rattle.records.proofs.LimitLaws.{by-quotient}
 
 returns : tie.Need-returns
 returns c = let h = c .if1 .taken in

@@ -1,0 +1,4 @@
+pub mod Quantities
+pub mod Conditions
+pub mod Calls
+pub mod Places

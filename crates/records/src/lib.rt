@@ -1,0 +1,38 @@
+// What the office hands over: quantities, records, their limits, and what the rules read of a day. Every function here answers every input.
+mod answers;
+mod conditions;
+mod lent;
+mod limits;
+mod quantities;
+mod snow;
+mod today;
+
+pub use answers::Answer;
+pub use answers::DayRecord;
+pub use answers::Last;
+pub use answers::Outcome;
+pub use answers::Place;
+pub use answers::Setup;
+pub use answers::Start;
+pub use answers::Totals;
+pub use conditions::Condition;
+pub use lent::depth;
+pub use lent::place;
+pub use lent::wide;
+pub use limits::count;
+pub use limits::day_fits;
+pub use limits::follows;
+pub use limits::grid_fits;
+pub use limits::last_fits;
+pub use limits::memory_fits;
+pub use limits::results_each;
+pub use limits::season_fits;
+pub use limits::setup_each;
+pub use limits::stores_each;
+pub use quantities::CurveNumber;
+pub use quantities::Depth;
+pub use quantities::Memory;
+pub use quantities::TenthF;
+pub use snow::melt;
+pub use today::Today;
+pub use today::today_of;

@@ -1,0 +1,101 @@
+// The paper's quantities, each a type of its own, so that a temperature handed over where a depth belongs does not compile.
+// The limits that bound a quantity stand with it.
+ghost use mathlib.Core.Path.{_≡_};
+ghost use Prim.Native.Nat.{_-_, min};
+ghost use Rattle.paper.specs.State.{remembered, fiveDays};
+ghost use Rattle.records.specs.Quantities.{memoryOf, FiveFit};
+
+// Units of 0.0001 inch.
+pub struct Depth(pub u64);
+
+// Tenths of a degree Fahrenheit.
+pub struct TenthF(pub i32);
+
+pub struct CurveNumber(pub u64);
+
+impl Depth {
+    pub const MOST_GROSS: Depth = Depth(400000);
+
+    pub const MOST_SNOW: Depth = Depth(10000000);
+
+    pub const MOST_POTENTIAL: Depth = Depth(20000);
+
+    pub const MOST_INTERCEPTION: Depth = Depth(10000);
+
+    pub const MOST_LARGEST_RECHARGE: Depth = Depth(100000);
+
+    // The melt rate, from 0.059 inch per degree Celsius: 295 units for each 9 tenths of a degree Fahrenheit above freezing.
+    pub const MELT: Depth = Depth(295);
+
+    pub const MELT_TENTHS: u64 = 9;
+
+    pub fn smaller(self, other: Depth) -> Depth
+        ensures { λ r. ⌜ r .0 ≡ min (self .0) (other .0) ⌝ }
+    {
+        if self.0 <= other.0 { self } else { other }
+    }
+
+    // What of this depth is beyond a limit: 0 where it keeps to it.
+    pub fn beyond(self, limit: Depth) -> Depth
+        ensures { λ r. ⌜ r .0 ≡ self .0 - limit .0 ⌝ }
+    {
+        if self.0 <= limit.0 {
+            Depth(0)
+        } else {
+            Depth(self.0 - limit.0)
+        }
+    }
+}
+
+impl TenthF {
+    pub const FREEZING: TenthF = TenthF(320);
+
+    pub const LEAST: TenthF = TenthF(-1000);
+
+    pub const MOST: TenthF = TenthF(1500);
+}
+
+impl CurveNumber {
+    pub const LEAST: CurveNumber = CurveNumber(30);
+
+    pub const MOST: CurveNumber = CurveNumber(100);
+}
+
+// The gross precipitation of the five previous days.
+pub struct Memory {
+    pub oldest: Depth,
+    pub fourth: Depth,
+    pub third: Depth,
+    pub second: Depth,
+    pub yesterday: Depth,
+}
+
+impl Memory {
+    pub fn next(self, gross: Depth) -> Memory
+        ensures { λ r. ⌜ memoryOf r ≡ remembered (memoryOf self) (gross .0) ⌝ }
+    {
+        let fourth = self.fourth;
+        let third = self.third;
+        let second = self.second;
+        let yesterday = self.yesterday;
+        Memory {
+            oldest: fourth,
+            fourth: third,
+            third: second,
+            second: yesterday,
+            yesterday: gross,
+        }
+    }
+
+    pub(crate) fn five_days(self) -> Depth
+        requires { ⌜ FiveFit self ⌝ }
+        ensures { λ r. ⌜ r .0 ≡ fiveDays (memoryOf self) ⌝ }
+    {
+        let oldest = self.oldest.0;
+        let fourth = self.fourth.0;
+        let third = self.third.0;
+        let second = self.second.0;
+        let yesterday = self.yesterday.0;
+        Depth(oldest + fourth + third + second + yesterday)
+    }
+}

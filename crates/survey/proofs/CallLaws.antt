@@ -1,0 +1,103 @@
+-- The calls' first two tests, and what they leave the survey: a grid within its limits, with one entry a cell in every lent slice.
+use mathlib.Core.Path.{_≡_, refl, sym, ap, _∙_}
+use mathlib.Core.Bool.{Bool, true, false, _&&_, and-assoc}
+use mathlib.Core.List.{List, [], _∷_, _++_}
+use Prim.Native.Nat.{ℕ, _≤_}
+use native.Mathlib.Omega.{arith}
+use lib.Dec.{eqb}
+use borrow.Author.Tests.{leb-true, eqb-true}
+use Rattle.theory.proofs.Cases.{and-left, and-right, and-second}
+use Rattle.paper.specs.Setup.{Setup, cells, gridFits}
+use Rattle.paper.specs.Day.{checkOf}
+use Rattle.paper.specs.Refusals.{Refusal, grid, lent, Verdict, accepted, verdict, single, refused, oneEach, setupLengths, setupTests, mapTests}
+use Rattle.paper.proofs.RefusalLaws.{pass-single, fail-single}
+use Rattle.records.specs.Calls.{refusedAs, outcomeIn}
+use Rattle.records.specs.declared.answers.Outcome.{Outcome}
+use Rattle.records.specs.declared.answers.Outcome.the-variants.{Accepted}
+use Rattle.records.proofs.OutcomeLaws.{accepted-back}
+use Rattle.survey.specs.Survey.{Blank, Surveyable, Chart, Surveyed}
+
+both : (b : Bool) → (b && true) ≡ b
+both true = refl
+both false = refl
+
+-- one entry a cell in the slices of both lists
+pub each-both : (n : ℕ) (xs ys : List ℕ) → oneEach n (xs ++ ys) ≡ (oneEach n xs && oneEach n ys)
+unfolding oneEach
+each-both n [] ys = refl
+each-both n (x ∷ xs) ys = ap (λ (b : Bool). eqb x n && b) (each-both n xs ys) ∙ sym (and-assoc (eqb x n) (oneEach n xs) (oneEach n ys))
+
+module _ (s : Setup) where
+  module _ (lengths : List ℕ) where
+    pub grid-bad : gridFits s ≡ false → verdict (setupTests s lengths) ≡ refused grid
+    unfolding setupTests
+    grid-bad e = fail-single _ _ grid e
+
+    pub lent-bad : gridFits s ≡ true → oneEach (cells s) lengths ≡ false → verdict (setupTests s lengths) ≡ refused lent
+    unfolding setupTests
+    lent-bad g e = pass-single _ _ grid g ∙ fail-single _ _ lent e
+
+    pub on-the-map : gridFits s ≡ true → oneEach (cells s) lengths ≡ true → verdict (setupTests s lengths) ≡ verdict (mapTests s)
+    unfolding setupTests
+    on-the-map g e = pass-single _ _ grid g ∙ pass-single _ _ lent e
+
+  pub few-cells : gridFits s ≡ true → cells s ≤ 4096
+  unfolding gridFits
+  few-cells g = leb-true _ _ (search (and-left, and-right))
+
+  pub surveyable : (slots ways order : List ℕ) → Blank slots ways order → gridFits s ≡ true → oneEach (cells s) (setupLengths s) ≡ true
+      → Surveyable s slots ways order
+  unfolding gridFits setupLengths oneEach
+  surveyable slots ways order blank g e =
+      record {
+        wide = leb-true _ _ (search (and-left, and-right));
+        high = leb-true _ _ (search (and-left, and-right));
+        few = leb-true _ _ (search (and-left, and-right));
+        directions = eqb-true _ _ (search (and-left, and-right));
+        covers = eqb-true _ _ (search (and-left, and-right));
+        groups = eqb-true _ _ (search (and-left, and-right));
+        waters = eqb-true _ _ (search (and-left, and-right));
+        empty = blank;
+      }
+
+  -- a setup refused leaves the arrays empty
+  pub refuse-survey : (r : Outcome) (why : Refusal) (slots ways order : List ℕ) → checkOf s ≡ refused why → r ≡ refusedAs why → Blank slots ways order
+      → Surveyed s r slots ways order
+  refuse-survey r why slots ways order v e blank =
+      record {
+        outcome = e ∙ sym (ap outcomeIn v);
+        mapped = λ a. absurd (let z : _≡_ {A = ℕ} 0 1 = cc in omega arith);
+        blank = λ w q. blank;
+      }
+
+  module _ (grid : gridFits s ≡ true) (each : oneEach (cells s) (setupLengths s) ≡ true) where
+    check-is : checkOf s ≡ verdict (mapTests s)
+    unfolding checkOf
+    check-is = on-the-map (setupLengths s) grid each
+
+    pub chart-refuses : (r : Outcome) (slots ways order : List ℕ) → r ≡ outcomeIn (verdict (mapTests s)) → (r ≡ Accepted → ⊥) → Blank slots ways order
+        → Surveyed s r slots ways order
+    chart-refuses r slots ways order e not blank = go (verdict (mapTests s)) refl
+      where
+        go : (v : Verdict) → verdict (mapTests s) ≡ v → Surveyed s r slots ways order
+        go accepted q = absurd (not (e ∙ ap outcomeIn q))
+        go (refused why) q = refuse-survey r why slots ways order (check-is ∙ q) (e ∙ ap outcomeIn q) blank
+
+    pub chart-passes : (slots ways order : List ℕ) → Chart s Accepted slots ways order → Surveyed s Accepted slots ways order
+    chart-passes slots ways order chart =
+        record {
+          outcome = chart .outcome ∙ sym (ap outcomeIn check-is);
+          mapped = λ a. chart .mapped (sym check-is ∙ a);
+          blank = λ why q. absurd (let v : checkOf s ≡ accepted = accepted-back _ (chart .outcome ∙ sym (ap outcomeIn check-is)) in let z : _≡_ {A = ℕ} 0 1 = cc in omega arith);
+        }
+
+  -- with more slices lent: where each of them has one entry a cell, the verdict is the setup check's
+  module _ (more : List ℕ) where
+    pub more-fit : oneEach (cells s) more ≡ true → verdict (setupTests s (setupLengths s ++ more)) ≡ checkOf s
+    unfolding checkOf setupTests
+    more-fit e =
+        ap (λ (b : Bool). verdict (single (gridFits s) grid ∷ single b lent ∷ mapTests s))
+        (each-both (cells s) (setupLengths s) more ∙ rw e (both (oneEach (cells s) (setupLengths s))))
+
+    pub more-bad : gridFits s ≡ true → oneEach (cells s) more ≡ false → verdict (setupTests s (setupLengths s ++ more)) ≡ refused lent
+    more-bad g e = lent-bad (setupLengths s ++ more) g (each-both (cells s) (setupLengths s) more ∙ and-second (oneEach (cells s) (setupLengths s)) _ e)

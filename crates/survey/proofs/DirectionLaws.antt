@@ -1,0 +1,108 @@
+-- Steps of a row or a column as the code takes them, with one added to each: a sum of 0 is over the near edge, one past the size over the far
+-- edge, and any other is one more than the row or column stepped to. Where a cell points then is a cell of the grid, or 4,096, or 4,097;
+-- and a cell's row and column are its number's quotient and remainder by the width.
+use mathlib.Core.Path.{_≡_, refl, sym, ap, _∙_}
+use mathlib.Core.Logic.{_⊎_, inl, inr}
+use Prim.Native.Nat.{ℕ, zero, suc, _+_, _-_, _*_, _/_, _%_, _≤_, _<_}
+use native.Mathlib.Nat.{zero-lt-suc, mod-lt, div-lt-iff-lt-mul, mul-le-mul-right, mul-add-mod-self-right, mod-eq-of-lt, le-of-eq}
+use native.Mathlib.Omega.{arith}
+use lib.Arith.{digits-div}
+use borrow.Author.Tests.{lt-ltb, le-ltb, ne-eqb}
+use Rattle.theory.specs.Lowest.{Found, at, nowhere}
+use Rattle.theory.proofs.Cases.{below-or-not}
+use Rattle.paper.specs.Directions.{Step, less, same, more, Way, toward, closed, wayOf, stepped, cellAt, goesBy}
+use Rattle.paper.specs.Setup.{pointed}
+use Rattle.survey.specs.Routes.{stepOf, goesFrom}
+
+pub near-edge : (size k d : ℕ) → k + d ≡ 0 → stepped size (stepOf d) k ≡ nowhere
+unfolding stepped stepOf
+near-edge size zero zero h = refl
+near-edge size zero (suc d) h = absurd (omega arith)
+near-edge size (suc k) d h = absurd (omega arith)
+
+pub far-edge : (size k d : ℕ) → d ≤ 2 → k < size → size < k + d → stepped size (stepOf d) k ≡ nowhere
+unfolding stepped stepOf
+far-edge size k zero m l h = absurd (omega arith)
+far-edge size k (suc zero) m l h = absurd (omega arith)
+far-edge size k (suc (suc zero)) m l h = rw (le-ltb (suc k) size (omega arith))
+far-edge size k (suc (suc (suc d))) m l h = absurd (omega arith)
+
+pub step-to : (size k d : ℕ) → d ≤ 2 → 0 < k + d → k + d ≤ size → stepped size (stepOf d) k ≡ at (k + d - 1)
+unfolding stepped stepOf
+step-to size zero zero m l h = absurd (omega arith)
+step-to size (suc k) zero m l h = ap at (omega arith)
+step-to size k (suc zero) m l h = ap at (omega arith)
+step-to size k (suc (suc zero)) m l h = rw (lt-ltb (suc k) size (omega arith)) (ap at (omega arith))
+step-to size k (suc (suc (suc d))) m l h = absurd (omega arith)
+
+pub over-row : {row : Found} (width : ℕ) (column : Found) → row ≡ nowhere → 4096 ≡ pointed (cellAt width row column)
+unfolding pointed cellAt
+over-row width (at c) e = rw e
+over-row width nowhere e = rw e
+
+pub over-column : {column : Found} (width : ℕ) (row : Found) → column ≡ nowhere → 4096 ≡ pointed (cellAt width row column)
+unfolding pointed cellAt
+over-column width (at r) e = rw e
+over-column width nowhere e = rw e
+
+pub at-cell : {y x : Found} (width row column : ℕ) → y ≡ at row → x ≡ at column → row * width + column ≡ pointed (cellAt width y x)
+unfolding pointed cellAt
+at-cell width row column e f = rw (e, f)
+
+pub other-byte : (byte : ℕ) → (byte ≡ 1 → ⊥) → (byte ≡ 2 → ⊥) → (byte ≡ 4 → ⊥) → (byte ≡ 8 → ⊥) → (byte ≡ 16 → ⊥) → (byte ≡ 32 → ⊥)
+    → (byte ≡ 64 → ⊥) → (byte ≡ 128 → ⊥) → wayOf byte ≡ closed
+unfolding wayOf
+other-byte byte a b c d e f g h =
+    rw (ne-eqb byte 1 a, ne-eqb byte 2 b, ne-eqb byte 4 c, ne-eqb byte 8 d, ne-eqb byte 16 e, ne-eqb byte 32 f, ne-eqb byte 64 g, ne-eqb byte 128 h)
+
+pub by-byte : {byte key r : ℕ} (width height row column : ℕ) → byte ≡ key → r ≡ pointed (goesFrom width height row column (wayOf key))
+    → r ≡ pointed (goesFrom width height row column (wayOf byte))
+by-byte width height row column e q = rw e q
+
+pub pointed-closed : (width height row column : ℕ) → pointed (goesFrom width height row column closed) ≡ 4097
+unfolding pointed goesFrom
+pointed-closed width height row column = refl
+
+-- by the cell's number
+pub goes-by : (width height i : ℕ) (way : Way) → goesFrom width height (i / width) (i % width) way ≡ goesBy width height i way
+unfolding goesFrom goesBy
+goes-by width height i (toward down right) = refl
+goes-by width height i closed = refl
+
+pub goes-at : (width height row column : ℕ) (way : Way) → column < width
+    → goesFrom width height row column way ≡ goesBy width height (row * width + column) way
+goes-at width height row column way h =
+    (λ k. goesFrom width height (sym (digits-div row h) k) (sym (mul-add-mod-self-right row width column ∙ mod-eq-of-lt h) k) way)
+    ∙ goes-by width height (row * width + column) way
+
+within : (size : ℕ) (step : Step) (k : ℕ) → k < size → (stepped size step k ≡ nowhere) ⊎ ((j : ℕ) × (j < size) × (stepped size step k ≡ at j))
+unfolding stepped
+within size less zero h = inl refl
+within size less (suc k) h = inr (k, omega arith, refl)
+within size same k h = inr (k, h, refl)
+within size more k h =
+    below-or-not (suc k) size (λ l. inr (suc k, l, rw (lt-ltb (suc k) size l))) (λ l. inl (rw (le-ltb (suc k) size l)))
+
+module _ (width height row column : ℕ) (h : row < height) (l : column < width) where
+  pub points-in-or-out : (way : Way)
+      → (pointed (goesFrom width height row column way) < width * height) ⊎ (4096 ≤ pointed (goesFrom width height row column way))
+  unfolding goesFrom
+  points-in-or-out (toward down right) = go (within height down row h) (within width right column l)
+    where
+      go : (stepped height down row ≡ nowhere) ⊎ ((j : ℕ) × (j < height) × (stepped height down row ≡ at j))
+          → (stepped width right column ≡ nowhere) ⊎ ((j : ℕ) × (j < width) × (stepped width right column ≡ at j))
+          → (pointed (cellAt width (stepped height down row) (stepped width right column)) < width * height)
+          ⊎ (4096 ≤ pointed (cellAt width (stepped height down row) (stepped width right column)))
+      go (inl e) q = inr (le-of-eq (over-row width (stepped width right column) e))
+      go (inr p) (inl e) = inr (le-of-eq (over-column width (stepped height down row) e))
+      go (inr (y, a, e)) (inr (x, b, f)) =
+          inl (omega (arith, at-cell width y x e f, mul-le-mul-right {m = y + 1} {n = height} width (omega arith)))
+  points-in-or-out closed = inr (rw pointed-closed (omega arith))
+
+-- the same by the cell's number
+pub cell-points : (width height i : ℕ) (way : Way) → i < width * height
+    → (pointed (goesBy width height i way) < width * height) ⊎ (4096 ≤ pointed (goesBy width height i way))
+cell-points zero height i way h = absurd (omega arith)
+cell-points (suc w) height i way h =
+    rw (← goes-by)
+    (points-in-or-out (suc w) height (i / suc w) (i % suc w) (div-lt-iff-lt-mul (zero-lt-suc w) .1 (omega arith)) (mod-lt i (zero-lt-suc w)) way)

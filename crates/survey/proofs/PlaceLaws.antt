@@ -1,0 +1,21 @@
+-- A search that comes to a place that fails, or past the last, has found the lowest: none of the places that it passed failed.
+use mathlib.Core.Path.{_≡_, sym, ap}
+use mathlib.Core.Bool.{Bool, true, false}
+use Prim.Native.Nat.{ℕ, _≤_, _<_}
+use native.Mathlib.Nat.{lt-of-lt-of-le}
+use Rattle.theory.specs.Lowest.{lowest}
+use Rattle.theory.proofs.LowestLaws.{at-lowest, none-lowest}
+use Rattle.records.specs.Places.{placeIn}
+use Rattle.records.specs.declared.answers.Place.the-variants.{At, Nowhere}
+
+-- the places below i pass
+abbrev pub PassedTo : (ℕ → Bool) → ℕ → Type 0
+PassedTo test i = (j : ℕ) → j < i → test j ≡ false
+
+pub found-place : (n : ℕ) (test : ℕ → Bool) (i : ℕ) → PassedTo test i → i < n → test i ≡ true → At i ≡ placeIn (lowest n test)
+unfolding placeIn
+found-place n test i passed h t = ap placeIn (sym (at-lowest n test i h t passed))
+
+pub no-place : (n : ℕ) (test : ℕ → Bool) (i : ℕ) → PassedTo test i → n ≤ i → Nowhere ≡ placeIn (lowest n test)
+unfolding placeIn
+no-place n test i passed h = ap placeIn (sym (none-lowest n test (λ j l. passed j (lt-of-lt-of-le l h))))

@@ -1,0 +1,108 @@
+-- The slots are the paper's cells. By the index a code finds its entry or none, so that a cell has a slot exactly where test 4 passes it, and
+-- from the slot come back the entry and the group.
+use mathlib.Core.Path.{_≡_, refl, sym, ap, _∙_}
+use mathlib.Core.Bool.{Bool, true, false, cond, not, _&&_, false≢true}
+use mathlib.Core.List.{List}
+use Prim.Native.Nat.{ℕ, suc, _+_, _*_, _-_, _≤_, _<_, zero-le}
+use native.Mathlib.Nat.{le-trans}
+use native.Mathlib.Omega.{arith}
+use lib.Dec.{eqb, leb}
+use lib.ListN.{getD, List·getD-eq-default}
+use borrow.Author.Tests.{eq-eqb, ne-eqb, leb-true}
+use Rattle.theory.proofs.Cases.{byCases, below-or-not, cond-true, cond-false, and-left, and-right}
+use Rattle.theory.proofs.LowestLaws.{lowest-at, none-lowest}
+use Rattle.theory.specs.Lowest.{Found, at, nowhere, isFound, lowest, some}
+use Rattle.paper.specs.Limits.{within, mostAvailableWater}
+use Rattle.paper.specs.Covers.{codeOf, entries}
+use Rattle.paper.specs.Setup.{Setup, coverOf, groupOf, waterOf, entryOf, place, cellFits}
+use Rattle.survey.specs.Cells.{slotOf}
+use Rattle.survey.specs.Covers.{oneMore, EntriesFit, Indexed}
+use Rattle.survey.specs.Slots.{slotIn, slotAt, IndexFits}
+use Rattle.survey.proofs.CoverLaws.{code-limit, count-limit}
+
+module _ (index : List ℕ) (code group water : ℕ) where
+  pub slot-none : getD index code 0 ≡ 0 → 256 ≡ slotIn index code group water
+  unfolding slotIn
+  slot-none e = sym (cond-true (eqb (getD index code 0) 0) (eq-eqb _ _ e) _ _)
+
+  pub slot-past : IndexFits index → 255 < code → 256 ≡ slotIn index code group water
+  slot-past fits h = slot-none (List·getD-eq-default index 0 {n = code} (rw (fits .sized) h))
+
+  pub slot-bad : (within 1 4 group && leb water mostAvailableWater) ≡ false → 256 ≡ slotIn index code group water
+  unfolding slotIn
+  slot-bad e =
+      byCases (eqb (getD index code 0) 0) (λ z. sym (cond-true (eqb (getD index code 0) 0) z _ _))
+      (λ z. sym (cond-false (eqb (getD index code 0) 0) z _ _ ∙ cond-false (within 1 4 group && leb water mostAvailableWater) e _ _))
+
+  pub slot-good : (getD index code 0 ≡ 0 → ⊥) → (within 1 4 group && leb water mostAvailableWater) ≡ true
+      → 4 * (getD index code 0 - 1) + (group - 1) ≡ slotIn index code group water
+  unfolding slotIn
+  slot-good some e =
+      sym (cond-false (eqb (getD index code 0) 0) (ne-eqb _ _ some) _ _
+      ∙ cond-true (within 1 4 group && leb water mostAvailableWater) e _ _)
+
+-- what the search finds below k is at most k when counted from 1
+more-most : (k : ℕ) (test : ℕ → Bool) (f : Found) → lowest k test ≡ f → oneMore f ≤ k
+unfolding oneMore
+more-most k test (at e) found = lowest-at k test found .0
+more-most k test nowhere found = zero-le
+
+module _ (covers index : List ℕ) (fit : EntriesFit covers) (known : Indexed covers (entries covers) index) where
+  -- also past 255, where no entry has its code
+  index-at : (code : ℕ) → getD index code 0 ≡ oneMore (lowest (entries covers) (λ e. eqb (codeOf covers e) code))
+  unfolding oneMore
+  index-at code =
+      below-or-not code 256 (known .found code)
+      (λ past. rw (none-lowest (entries covers) (λ e. eqb (codeOf covers e) code)
+      (λ e h. ne-eqb _ _ (λ (same : codeOf covers e ≡ code). let low : codeOf covers e < 256 = code-limit covers fit e h in omega arith)))
+      (List·getD-eq-default index 0 {n = code} (rw (known .sized) past)))
+
+  pub index-fits : IndexFits index
+  index-fits =
+      record {
+        sized = known .sized;
+        few = λ code. rw (index-at code) (le-trans (more-most (entries covers) _ _ refl) (count-limit covers fit));
+      }
+
+  -- the slot that is found where the search finds f
+  slot-by : Found → ℕ → ℕ → ℕ
+  slot-by f group water = cond (eqb (oneMore f) 0) 256 (cond (within 1 4 group && leb water mostAvailableWater) (4 * (oneMore f - 1) + (group - 1)) 256)
+
+  slot-found : (f : Found) (group water : ℕ) → oneMore f ≤ 64
+      → eqb (slot-by f group water) 256 ≡ not (isFound f && within 1 4 group && leb water mostAvailableWater)
+  unfolding slot-by oneMore isFound
+  slot-found nowhere group water h = refl
+  slot-found (at e) group water h =
+      rw (ne-eqb (suc e) 0 (λ (z : suc e ≡ 0). omega arith))
+      (byCases (within 1 4 group && leb water mostAvailableWater)
+      (λ b.
+      let group-most : group ≤ 4 = leb-true _ _ (search (and-left, and-right)) in
+      rw b (ne-eqb (4 * (suc e - 1) + (group - 1)) 256 (λ (z : 4 * (suc e - 1) + (group - 1) ≡ 256). omega arith)))
+      (λ b. rw b refl))
+
+module _ (s : Setup) (index : List ℕ) (fit : EntriesFit (s .covers)) (known : Indexed (s .covers) (entries (s .covers)) index) where
+  slot-at : (i : ℕ)
+      → slotAt index (s .cover) (s .group) (s .water) i
+      ≡ slot-by (s .covers) index fit known (lowest (entries (s .covers)) (λ e. eqb (codeOf (s .covers) e) (coverOf s i))) (groupOf s i) (waterOf s i)
+  unfolding slotIn slot-by
+  slot-at i = rw (index-at (s .covers) index fit known (coverOf s i)) refl
+
+  -- a cell has no slot exactly where test 4 fails it
+  pub slot-test : (i : ℕ) → eqb (slotAt index (s .cover) (s .group) (s .water) i) 256 ≡ not (cellFits s i)
+  unfolding cellFits some
+  slot-test i =
+      rw (slot-at i)
+      (slot-found (s .covers) index fit known _ (groupOf s i) (waterOf s i)
+      (le-trans (more-most (entries (s .covers)) _ _ refl) (count-limit (s .covers) fit)))
+
+  -- and where it passes, the slot is that of its entry and group
+  pub slot-is : (i : ℕ) → cellFits s i ≡ true → slotAt index (s .cover) (s .group) (s .water) i ≡ slotOf s i
+  unfolding slot-by cellFits some entryOf place isFound oneMore
+  slot-is i fits = slot-at i ∙ go (lowest (entries (s .covers)) (λ e. eqb (codeOf (s .covers) e) (coverOf s i))) fits
+    where
+      go : (f : Found) → (isFound f && within 1 4 (groupOf s i) && leb (waterOf s i) mostAvailableWater) ≡ true
+          → slot-by (s .covers) index fit known f (groupOf s i) (waterOf s i) ≡ 4 * place f + (groupOf s i - 1)
+      go nowhere b = absurd (false≢true b)
+      go (at e) b =
+          rw (ne-eqb (suc e) 0 (λ (z : suc e ≡ 0). omega arith), b)
+          (ap (λ (k : ℕ). 4 * k + (groupOf s i - 1)) (let one : suc e - 1 ≡ e = omega arith in one))

@@ -1,0 +1,209 @@
+-- Tests 3 to 6 one after another: where each fails, the verdict is its refusal; where all pass, the arrays hold every cell's slot, where it points,
+-- and an order of the cells.
+use mathlib.Core.Path.{_≡_, refl, sym, ap, _∙_}
+use mathlib.Core.Bool.{true, false, not}
+use mathlib.Core.List.{List, [], _∷_, _++_}
+use Prim.Native.Nat.{ℕ, _*_, _≤_, _<_}
+use native.Mathlib.Omega.{arith}
+use lib.Dec.{eqb}
+use lib.ListN.{length, getD, drop, replicate, length-replicate}
+use borrow.Author.Tests.{not-false}
+use Rattle.theory.specs.Lists.{madeOver}
+use Rattle.theory.specs.Lowest.{Found, at, nowhere, lowest}
+use Rattle.theory.specs.Ways.{onRing}
+use Rattle.theory.proofs.Cases.{cond-true, cond-false}
+use Rattle.theory.proofs.ListLaws.{made-cong, over-length}
+use Rattle.theory.proofs.LowestLaws.{lowest-none, at-lowest, lowest-cong}
+use Rattle.paper.specs.Covers.{entries, sizeFits, entryFits}
+use Rattle.paper.specs.Setup.{Setup, cells, cellFits, seasonFits, next}
+use Rattle.paper.specs.Refusals.{Refusal, coverTable, cellNumbers, ring, season, accepted, refused, Test, verdict, single, coverPlaces, coverFits, mapTests}
+use Rattle.paper.proofs.RefusalLaws.{pass-single, fail-single, pass-many, fail-many}
+use Rattle.records.specs.Calls.{refusedAs, outcomeIn}
+use Rattle.survey.specs.Survey.{Surveyable, Chart}
+use Rattle.survey.specs.Cells.{slotOf}
+use Rattle.survey.specs.Slots.{slotAt, IndexFits, SlotsOrBad, wayAt, Layable}
+use Rattle.survey.specs.Routes.{nextIn, WaysIn, OrderedBy, OrderOrRing}
+use Rattle.records.specs.declared.answers.Outcome.the-variants.{Accepted}
+use Rattle.paper.proofs.SetupLaws.{Charted, next-past}
+use Rattle.survey.proofs.SlotLaws.{index-fits, slot-test, slot-is}
+use Rattle.survey.proofs.CellLaws.{slot-limit, way-is}
+use Rattle.survey.proofs.WayArrays.{over-at, ways-in, ways-next}
+use Rattle.records.specs.declared.answers.Outcome.{Outcome}
+use Rattle.survey.specs.Covers.{EntriesFit, Indexed}
+use Rattle.records.specs.Places.{placeIn}
+use Rattle.records.specs.declared.answers.Place.{Place}
+use Rattle.records.specs.declared.answers.Place.the-variants.{At, Nowhere}
+
+-- what a search's answer says of what it found
+pub found-at : (f : Found) (i : ℕ) → At i ≡ placeIn f → f ≡ at i
+unfolding placeIn
+found-at (at j) i e = let same : i ≡ j = cc in ap at (sym same)
+found-at nowhere i e = absurd (let z : _≡_ {A = ℕ} 0 1 = cc in omega arith)
+
+pub found-no : (f : Found) → Nowhere ≡ placeIn f → f ≡ nowhere
+unfolding placeIn
+found-no (at j) e = absurd (let z : _≡_ {A = ℕ} 0 1 = cc in omega arith)
+found-no nowhere e = refl
+
+module _ (s : Setup) where
+  abbrev cellTest : Test
+  cellTest = record { places = cells s; fails = λ i. not (cellFits s i); called = cellNumbers }
+
+  abbrev ringTest : Test
+  ringTest = record { places = cells s; fails = λ i. onRing (cells s) (next s) i; called = ring }
+
+  cover-search : sizeFits (s .covers) ≡ true
+      → lowest (coverPlaces (s .covers)) (λ e. not (coverFits (s .covers) e)) ≡ lowest (entries (s .covers)) (λ e. not (entryFits (s .covers) e))
+  unfolding coverPlaces coverFits
+  cover-search size = rw (cond-true (sizeFits (s .covers)) size, size) refl
+
+  pub size-bad : sizeFits (s .covers) ≡ false → verdict (mapTests s) ≡ refused (coverTable 0)
+  unfolding mapTests coverPlaces coverFits
+  size-bad size =
+      fail-many _ _ 0
+      (at-lowest _ _ 0 (rw (cond-false (sizeFits (s .covers)) size) (omega arith)) (rw size refl) (λ j h. absurd (omega arith)))
+
+  module _ (size : sizeFits (s .covers) ≡ true) where
+    pub entry-bad : (e : ℕ) → lowest (entries (s .covers)) (λ k. not (entryFits (s .covers) k)) ≡ at e
+        → verdict (mapTests s) ≡ refused (coverTable e)
+    unfolding mapTests
+    entry-bad e found = fail-many _ _ e (cover-search size ∙ found)
+
+    module _ (none : lowest (entries (s .covers)) (λ k. not (entryFits (s .covers) k)) ≡ nowhere) where
+      pub entries-fit : EntriesFit (s .covers)
+      entries-fit = record { sized = size; fit = λ e h. not-false _ (lowest-none _ _ none e h) }
+
+      covers-pass : verdict (mapTests s) ≡ verdict (cellTest ∷ ringTest ∷ single (seasonFits s) season ∷ [])
+      unfolding mapTests
+      covers-pass = pass-many _ _ (cover-search size ∙ none)
+
+      pub cell-bad : (i : ℕ) → lowest (cells s) (λ k. not (cellFits s k)) ≡ at i → verdict (mapTests s) ≡ refused (cellNumbers i)
+      cell-bad i found = covers-pass ∙ fail-many _ cellTest i found
+
+      module _ (fit : lowest (cells s) (λ k. not (cellFits s k)) ≡ nowhere) where
+        cells-pass : verdict (mapTests s) ≡ verdict (ringTest ∷ single (seasonFits s) season ∷ [])
+        cells-pass = covers-pass ∙ pass-many _ cellTest fit
+
+        pub ring-bad : (i : ℕ) → lowest (cells s) (onRing (cells s) (next s)) ≡ at i → verdict (mapTests s) ≡ refused (ring i)
+        ring-bad i found = cells-pass ∙ fail-many _ ringTest i found
+
+        module _ (free : lowest (cells s) (onRing (cells s) (next s)) ≡ nowhere) where
+          pub season-bad : seasonFits s ≡ false → verdict (mapTests s) ≡ refused season
+          season-bad e = cells-pass ∙ pass-many _ ringTest free ∙ fail-single _ _ season e
+
+          pub all-pass : seasonFits s ≡ true → verdict (mapTests s) ≡ accepted
+          unfolding verdict
+          all-pass e = cells-pass ∙ pass-many (single (seasonFits s) season ∷ []) ringTest free ∙ pass-single [] _ season e
+
+  -- a refusal, in the code's own words
+  pub refuse : (r : Outcome) (why : Refusal) (slots ways order : List ℕ) → verdict (mapTests s) ≡ refused why → r ≡ refusedAs why
+      → Chart s r slots ways order
+  refuse r why slots ways order v e =
+      record {
+        outcome = e ∙ sym (ap outcomeIn v);
+        mapped = λ a. absurd (let z : _≡_ {A = ℕ} 0 1 = cc in omega arith);
+      }
+
+-- the arrays, stage by stage
+module _ (s : Setup) (slots₀ ways₀ order₀ : List ℕ) (pre : Surveyable s slots₀ ways₀ order₀) (size : sizeFits (s .covers) ≡ true)
+    (none : lowest (entries (s .covers)) (λ k. not (entryFits (s .covers) k)) ≡ nowhere)
+    (index : List ℕ) (known : Indexed (s .covers) (entries (s .covers)) index) where
+  fit : EntriesFit (s .covers)
+  fit = entries-fit s size none
+
+  abbrev slot : ℕ → ℕ
+  slot = slotAt index (s .cover) (s .group) (s .water)
+
+  pub slots-ask : IndexFits index × (length (s .cover) ≤ 4096) × (length (s .group) ≡ length (s .cover)) × (length (s .water) ≡ length (s .cover)) × (length slots₀ ≡ 4096)
+  slots-ask = (
+    index-fits (s .covers) index fit known,
+    omega (arith, pre .covers, pre .few),
+    pre .groups ∙ sym (pre .covers),
+    pre .waters ∙ sym (pre .covers),
+    ap length (pre .empty .no-slots) ∙ length-replicate {A = ℕ} 4096 0,
+  )
+
+  module _ (r : Place) (slots : List ℕ) (sb : SlotsOrBad (length (s .cover)) slot r slots₀ slots) where
+    search-is : r ≡ placeIn (lowest (cells s) (λ i. not (cellFits s i)))
+    search-is =
+        sb .lowest-bad
+        ∙ ap placeIn (ap (λ (n : ℕ). lowest n (λ i. eqb (slot i) 256)) (pre .covers)
+        ∙ lowest-cong (cells s) _ _ (λ i h. slot-test s index fit known i))
+
+    pub cell-found : (i : ℕ) → r ≡ At i → lowest (cells s) (λ k. not (cellFits s k)) ≡ at i
+    cell-found i e = found-at _ i (sym e ∙ search-is)
+
+    module _ (through : r ≡ Nowhere) where
+      pub cells-fit : lowest (cells s) (λ k. not (cellFits s k)) ≡ nowhere
+      cells-fit = found-no _ (sym through ∙ search-is)
+
+      pub charted : Charted s
+      charted =
+          record {
+            wide = pre .wide;
+            high = pre .high;
+            few = pre .few;
+            sized = size;
+            entered = fit .fit;
+            celled = λ i h. not-false _ (lowest-none _ _ cells-fit i h);
+          }
+
+      pub slots-are : slots ≡ madeOver (cells s) (slotOf s) (replicate 4096 0)
+      unfolding madeOver
+      slots-are =
+          sb .filled through
+          ∙ rw (pre .covers, pre .empty .no-slots)
+          (ap (λ (l : List ℕ). l ++ drop (cells s) (replicate 4096 0))
+          (made-cong (cells s) slot (slotOf s) (λ i h. slot-is s index fit known i (charted .celled i h))))
+
+      slot-at : (i : ℕ) → i < cells s → getD slots i 0 ≡ slotOf s i
+      slot-at i h = rw slots-are (over-at (cells s) (slotOf s) (replicate 4096 0) 0 i h)
+
+      pub lay-ask : Layable (s .width) (s .height) (s .covers) slots (s .direction) ways₀
+      unfolding cells
+      lay-ask =
+          record {
+            wide = pre .wide;
+            few = pre .few;
+            slots-sized = ap length slots-are ∙ over-length (cells s) (slotOf s) (replicate 4096 0) (pre .few);
+            ways-sized = ap length (pre .empty .no-ways) ∙ length-replicate {A = ℕ} 4096 4097;
+            each = pre .directions;
+            slotted = λ i h. rw (slot-at i h) (slot-limit s charted i h);
+          }
+
+      module _ (ways : List ℕ) (laid : ways ≡ madeOver (s .width * s .height) (wayAt (s .width) (s .height) (s .covers) slots (s .direction)) ways₀) where
+        pub ways-are : ways ≡ madeOver (cells s) (next s) (replicate 4096 4097)
+        unfolding madeOver cells
+        ways-are =
+            laid
+            ∙ rw (pre .empty .no-ways)
+            (ap (λ (l : List ℕ). l ++ drop (cells s) (replicate 4096 4097))
+            (made-cong (cells s) _ (next s) (λ i h. sym (way-is s charted i h slots (slot-at i h)))))
+
+        ways-point : nextIn ways ≡ next s
+        ways-point = ap nextIn ways-are ∙ ways-next (cells s) (next s) (pre .few) (next-past s charted (pre .directions))
+
+        pub order-ask : WaysIn (length (s .direction)) ways × (order₀ ≡ replicate 4096 0)
+        order-ask =
+            (rw (pre .directions, ways-are) (ways-in (cells s) (next s) (pre .few)), pre .empty .no-order)
+
+        module _ (found : Place) (order : List ℕ) (o : OrderOrRing (length (s .direction)) (nextIn ways) found order) where
+          ring-is : found ≡ placeIn (lowest (cells s) (onRing (cells s) (next s)))
+          ring-is = rw (ways-point, pre .directions) at (o .ring)
+
+          pub ring-found : (i : ℕ) → found ≡ At i → lowest (cells s) (onRing (cells s) (next s)) ≡ at i
+          ring-found i e = found-at _ i (sym e ∙ ring-is)
+
+          module _ (straight : found ≡ Nowhere) where
+            pub no-ring : lowest (cells s) (onRing (cells s) (next s)) ≡ nowhere
+            no-ring = found-no _ (sym straight ∙ ring-is)
+
+            ordered-by : OrderedBy (cells s) (next s) order
+            ordered-by = rw (ways-point, pre .directions) at (o .ordered straight)
+
+            pub surveyed : seasonFits s ≡ true → Chart s Accepted slots ways order
+            surveyed e =
+                record {
+                  outcome = sym (ap outcomeIn (all-pass s size none cells-fit no-ring e));
+                  mapped = λ a. record { slots-are = slots-are; ways-are = ways-are; ordered = ordered-by };
+                }

@@ -1,0 +1,6 @@
+pub mod Covers
+pub mod Cells
+pub mod Routes
+pub mod Slots
+pub mod Peeling
+pub mod Survey

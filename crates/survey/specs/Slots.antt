@@ -1,0 +1,56 @@
+-- The slots that the code finds by the index of the cover table.
+use mathlib.Core.Path.{_≡_}
+use mathlib.Core.Bool.{cond, _&&_}
+use mathlib.Core.List.{List}
+use Prim.Native.Nat.{ℕ, suc, _+_, _*_, _/_, _-_, _≤_, _<_}
+use lib.Dec.{eqb, leb}
+use lib.ListN.{length, getD}
+use Rattle.theory.specs.Lists.{madeOver}
+use Rattle.theory.specs.Lowest.{lowest}
+use Rattle.paper.specs.Limits.{within, mostCells, mostAvailableWater}
+use Rattle.paper.specs.Covers.{openOf, entries}
+use Rattle.paper.specs.Directions.{wayOf, goesBy}
+use Rattle.paper.specs.Setup.{pointed}
+use Rattle.survey.specs.Routes.{goesFrom}
+use Rattle.records.specs.Places.{placeIn}
+use Rattle.records.specs.declared.answers.Place.{Place}
+use Rattle.records.specs.declared.answers.Place.the-variants.{Nowhere}
+
+-- the slot of a cell's three numbers, 256 where they do not fit
+unfoldable pub slotIn : List ℕ → ℕ → ℕ → ℕ → ℕ
+slotIn index code group water =
+    cond (eqb (getD index code 0) 0) 256
+    (cond (within 1 4 group && leb water mostAvailableWater) (4 * (getD index code 0 - 1) + (group - 1)) 256)
+
+abbrev pub slotAt : List ℕ → List ℕ → List ℕ → List ℕ → ℕ → ℕ
+slotAt index cover group water i = slotIn index (getD cover i 0) (getD group i 0) (getD water i 0)
+
+-- an index of at most 64 entries
+pub record IndexFits (index : List ℕ) : Type 0 where
+  pub sized : length index ≡ 256
+  pub few : (code : ℕ) → getD index code 0 ≤ 64
+
+-- the lowest cell without a slot; and where there is none, the slots over the front of the array
+pub record SlotsOrBad (n : ℕ) (slot : ℕ → ℕ) (r : Place) (before after : List ℕ) : Type 0 where
+  pub lowest-bad : r ≡ placeIn (lowest n (λ i. eqb (slot i) 256))
+  pub filled : r ≡ Nowhere → after ≡ madeOver n slot before
+
+-- where a cell points, by its row and column, whether it is open water, and its direction byte
+unfoldable pub wayFrom : ℕ → ℕ → ℕ → ℕ → ℕ → ℕ → ℕ
+wayFrom width height row column lake byte =
+    cond (eqb lake 1) (suc mostCells) (pointed (goesFrom width height row column (wayOf byte)))
+
+-- where cell i points
+unfoldable pub wayAt : ℕ → ℕ → List ℕ → List ℕ → List ℕ → ℕ → ℕ
+wayAt width height covers slots direction i =
+    cond (eqb (openOf covers (getD slots i 0 / 4)) 1) (suc mostCells)
+    (pointed (goesBy width height i (wayOf (getD direction i 0))))
+
+-- a grid of at most 4,096 cells, their directions and slots
+pub record Layable (width height : ℕ) (covers slots direction ways : List ℕ) : Type 0 where
+  pub wide : 1 ≤ width
+  pub few : width * height ≤ mostCells
+  pub slots-sized : length slots ≡ 4096
+  pub ways-sized : length ways ≡ 4096
+  pub each : length direction ≡ width * height
+  pub slotted : (i : ℕ) → i < width * height → getD slots i 0 < 4 * entries covers

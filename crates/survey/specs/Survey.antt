@@ -1,0 +1,48 @@
+-- What the survey of a setup leaves: the verdict of tests 1 to 6, and where they pass, every cell's slot, where it points, and an order.
+use mathlib.Core.Path.{_≡_}
+use mathlib.Core.List.{List}
+use Prim.Native.Nat.{ℕ, _≤_}
+use lib.ListN.{length, replicate}
+use Rattle.theory.specs.Lists.{madeOver}
+use Rattle.paper.specs.Limits.{mostCells}
+use Rattle.paper.specs.Setup.{Setup, cells, next}
+use Rattle.paper.specs.Refusals.{Refusal, verdict, accepted, refused, mapTests}
+use Rattle.paper.specs.Day.{checkOf}
+use Rattle.records.specs.Calls.{outcomeIn}
+use Rattle.records.specs.declared.answers.Outcome.{Outcome}
+use Rattle.survey.specs.Cells.{slotOf}
+use Rattle.survey.specs.Routes.{OrderedBy}
+
+-- arrays that hold nothing yet
+pub record Blank (slots ways order : List ℕ) : Type 0 where
+  pub no-slots : slots ≡ replicate 4096 0
+  pub no-ways : ways ≡ replicate 4096 4097
+  pub no-order : order ≡ replicate 4096 0
+
+-- a grid within its limits, with one entry a cell, and blank arrays
+pub record Surveyable (s : Setup) (slots ways order : List ℕ) : Type 0 where
+  pub wide : 1 ≤ s .width
+  pub high : 1 ≤ s .height
+  pub few : cells s ≤ mostCells
+  pub directions : length (s .direction) ≡ cells s
+  pub covers : length (s .cover) ≡ cells s
+  pub groups : length (s .group) ≡ cells s
+  pub waters : length (s .water) ≡ cells s
+  pub empty : Blank slots ways order
+
+-- the arrays of a setup that passed
+pub record Mapped (s : Setup) (slots ways order : List ℕ) : Type 0 where
+  pub slots-are : slots ≡ madeOver (cells s) (slotOf s) (replicate 4096 0)
+  pub ways-are : ways ≡ madeOver (cells s) (next s) (replicate 4096 4097)
+  pub ordered : OrderedBy (cells s) (next s) order
+
+-- after tests 3 to 6
+pub record Chart (s : Setup) (r : Outcome) (slots ways order : List ℕ) : Type 0 where
+  pub outcome : r ≡ outcomeIn (verdict (mapTests s))
+  pub mapped : verdict (mapTests s) ≡ accepted → Mapped s slots ways order
+
+-- after tests 1 to 6: refused, the arrays hold nothing
+pub record Surveyed (s : Setup) (r : Outcome) (slots ways order : List ℕ) : Type 0 where
+  pub outcome : r ≡ outcomeIn (checkOf s)
+  pub mapped : checkOf s ≡ accepted → Mapped s slots ways order
+  pub blank : (why : Refusal) → checkOf s ≡ refused why → Blank slots ways order

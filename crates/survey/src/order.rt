@@ -1,0 +1,109 @@
+// The order of the cells, upslope first, by peeling in one array: entry i is 8192 times the number of cells that cell i still waits
+// for, plus the cell at place i of a queue of cells that wait for none. Where no ring is left over, the array ends as the order.
+ghost use mathlib.Core.Path.{_≡_};
+ghost use Prim.Native.Nat.{suc, _≤_, _<_};
+ghost use lib.Dec.{ltb};
+ghost use lib.ListN.{replicate};
+ghost use Rattle.theory.specs.Lowest.{lowest};
+ghost use Rattle.survey.specs.Routes.{nextIn, WaysIn, OrderOrRing};
+ghost use Rattle.records.specs.Places.{placeIn};
+ghost use Rattle.survey.specs.Peeling.{waits, Counted, Blank, GatheredIn, QueueIn};
+use records::Place;
+use records::place;
+
+// One cell to wait for: past every number of a cell.
+const ONE: u32 = 8192;
+
+// Each cell is to wait for all that lead to it.
+fn count(n: usize, ways: &[u32; 4096], order: &mut [u32; 4096])
+    requires { ⌜ (WaysIn n (now ways)) × (now order ≡ replicate 4096 0) ⌝ }
+    ensures { λ r. ⌜ Counted n (nextIn (now (ways .entry))) n (now (order .exit)) ⌝ }
+{
+    let mut i = 0;
+    while i < n {
+        let j = place(ways[i]);
+        if j < n {
+            order[j] += ONE;
+        }
+        i += 1;
+    }
+}
+
+// Puts the cells that wait for none into the queue, and says how many they are.
+fn sources(n: usize, order: &mut [u32; 4096]) -> usize
+    requires { ⌜ Blank n (now order) ⌝ }
+    ensures { λ r. ⌜ GatheredIn n (waits (now (order .entry))) n r (now (order .exit)) ⌝ }
+{
+    let mut tail = 0;
+    let mut i = 0;
+    while i < n {
+        if order[i] < ONE {
+            order[tail] += i as u32;
+            tail += 1;
+        }
+        i += 1;
+    }
+    tail
+}
+
+// Takes the cell at the queue's head: the one that it leads to waits for one cell less, and joins the queue when it waits for none.
+fn visit(n: usize, ways: &[u32; 4096], order: &mut [u32; 4096], head: usize, tail: usize) -> usize
+    requires { ⌜ (WaysIn n (now ways)) × (head < tail) × (QueueIn n (nextIn (now ways)) head tail (now order)) ⌝ }
+    ensures { λ r. ⌜ QueueIn n (nextIn (now (ways .entry))) (suc head) r (now (order .exit)) ⌝ }
+{
+    let cell = place(order[head] % ONE);
+    let way = ways[cell];
+    let j = place(way);
+    if n <= j {
+        return tail;
+    }
+    let left = order[j] - ONE;
+    order[j] = left;
+    if ONE <= left {
+        return tail;
+    }
+    order[tail] += way;
+    tail + 1
+}
+
+// Takes the queue to its end, and says how many cells came by.
+fn peel(n: usize, ways: &[u32; 4096], order: &mut [u32; 4096], sources: usize) -> usize
+    requires { ⌜ (WaysIn n (now ways)) × (QueueIn n (nextIn (now ways)) 0 sources (now order)) ⌝ }
+    ensures { λ r. ⌜ QueueIn n (nextIn (now (ways .entry))) r r (now (order .exit)) ⌝ }
+{
+    let mut head = 0;
+    let mut tail = sources;
+    while head < tail {
+        tail = visit(n, ways, order, head, tail);
+        head += 1;
+    }
+    tail
+}
+
+// The lowest cell that waits for another.
+fn leftover(n: usize, order: &[u32; 4096]) -> Place
+    requires { ⌜ n ≤ 4096 ⌝ }
+    ensures { λ r. ⌜ r ≡ placeIn (lowest n (λ i. ltb 0 (waits (now (order .entry)) i))) ⌝ }
+{
+    let mut i = 0;
+    while i < n {
+        if ONE <= order[i] {
+            return Place::At(i);
+        }
+        i += 1;
+    }
+    Place::Nowhere
+}
+
+pub(crate) fn order(n: usize, ways: &[u32; 4096], order: &mut [u32; 4096]) -> Place
+    requires { ⌜ (WaysIn n (now ways)) × (now order ≡ replicate 4096 0) ⌝ }
+    ensures { λ r. ⌜ OrderOrRing n (nextIn (now (ways .entry))) r (now (order .exit)) ⌝ }
+{
+    count(n, ways, order);
+    let first = sources(n, order);
+    let taken = peel(n, ways, order, first);
+    if taken < n {
+        return leftover(n, order);
+    }
+    Place::Nowhere
+}
