@@ -1,23 +1,26 @@
--- Tests 9 and 10 of a slot are the paper's of the cell, whichever way it points, and no step of theirs passes 64 bits.
-use mathlib.Core.Path.{_≡_, refl}
+-- Tests 9 and 10 of a slot are the paper's of the cell, whichever way it points, and a fall is at most the gross figure.
+use mathlib.Core.Path.{_≡_, refl, sym}
 use mathlib.Core.Bool.{Bool, true, false, _&&_}
 use mathlib.Core.List.{List}
-use Prim.Native.Nat.{ℕ, zero, suc, _-_, _*_, _≤_, _<_}
-use native.Mathlib.Nat.{mul-le-mul}
+use Prim.Native.Nat.{ℕ, zero, suc, _-_, _≤_}
 use native.Mathlib.Omega.{arith}
 use lib.Dec.{leb, eqb}
 use lib.ListN.{getD}
 use borrow.Author.Tests.{lt-leb, ne-eqb}
-use mir.Syntax.{w64}
-use mir.Val.{Fits}
 use Rattle.theory.specs.Sums.{given}
+use Rattle.paper.specs.Limits.{mostSnow}
 use Rattle.paper.specs.Interception.{intercepted, net}
 use Rattle.paper.specs.State.{mostSoilOf, mostSnowOf}
 use Rattle.paper.specs.CellDay.{Today, figureOf, netOf, storeOf}
 use Rattle.paper.specs.Refusals.{tooDeep}
-use Rattle.survey.specs.Cells.{cellFrom, SlotsFit}
+use Rattle.survey.specs.Cells.{cellFrom}
 use Rattle.recharge.specs.Stores.{storesFrom, storesAt, fallFrom, deepFrom, deepAt}
-use Rattle.survey.proofs.CoverLaws.{count-limit}
+use Rattle.recharge.specs.Ground.{Stands}
+use Rattle.recharge.specs.declared.ground.Ground.{Ground}
+
+leb-zero : (n : ℕ) → leb n 0 ≡ eqb n 0
+leb-zero zero = refl
+leb-zero (suc n) = rw (lt-leb (suc n) 0 (omega arith), ne-eqb (suc n) 0 (λ (e : suc n ≡ 0). omega arith))
 
 module _ (covers : List ℕ) (slot water way : ℕ) where
   pub stores-any : (soil snow : ℕ)
@@ -30,6 +33,16 @@ module _ (covers : List ℕ) (slot water way : ℕ) where
       → deepFrom covers slot (t .growing?) (t .snows?) (t .gross) snow ≡ tooDeep (cellFrom covers slot water way) t snow
   unfolding deepFrom fallFrom tooDeep storeOf netOf figureOf cellFrom
   deep-any t snow = refl
+
+  -- by the ground that the slot finds: on open water, past the capacity, and within it
+  module _ (soil snow : ℕ) (growing : Bool) (g : Ground) (stands : Stands (cellFrom covers slot water way) growing g) where
+    pub stores-open : g .«open_water» ≡ true → (eqb soil 0 && eqb snow 0) ≡ storesFrom covers slot water soil snow
+    unfolding storesFrom mostSoilOf mostSnowOf cellFrom
+    stores-open wet = rw (sym (stands .open?), wet, leb-zero soil, leb-zero snow) refl
+
+    pub stores-land : g .«open_water» ≡ false → (leb soil (g .capacity .0) && leb snow mostSnow) ≡ storesFrom covers slot water soil snow
+    unfolding storesFrom mostSoilOf mostSnowOf cellFrom
+    stores-land dry = rw (sym (stands .open?), dry, stands .capacity) refl
 
 module _ (covers slots water : List ℕ) (way i : ℕ) where
   pub stores-at : (soil snow : List ℕ)
@@ -44,10 +57,6 @@ module _ (covers slots water : List ℕ) (way i : ℕ) where
   unfolding deepAt tooDeep storeOf netOf figureOf cellFrom
   deep-at t snow = refl
 
-pub leb-zero : (n : ℕ) → leb n 0 ≡ eqb n 0
-leb-zero zero = refl
-leb-zero (suc n) = rw (lt-leb (suc n) 0 (omega arith), ne-eqb (suc n) 0 (λ (e : suc n ≡ 0). omega arith))
-
 -- what of the gross figure is beyond the interception figure is net
 pub net-beyond : (gross x figure : ℕ) → x ≡ figure → gross - x ≡ net gross figure
 unfolding net intercepted
@@ -61,12 +70,3 @@ given-most false x most h = omega arith
 pub fall-most : (covers : List ℕ) (slot : ℕ) (growing snows : Bool) (gross : ℕ) → fallFrom covers slot growing snows gross ≤ gross
 unfolding fallFrom net intercepted
 fall-most covers slot growing snows gross = given-most snows _ gross (omega arith)
-
-pub product-fits : (a b : ℕ) → a < 4294967296 → b < 4294967296 → Fits w64 (a * b)
-product-fits a b p q =
-    let product : a * b ≤ 4294967295 * 4294967295 = mul-le-mul {m₁ = b} {n₂ = 4294967295} {m₂ = 4294967295} (omega arith) (omega arith) in
-    record { fits = omega arith }
-
--- a slot is below 256
-pub slot-fits : {covers : List ℕ} {n : ℕ} {slots water : List ℕ} → SlotsFit covers n slots water → (i : ℕ) → i < n → Fits w64 (getD slots i 0)
-slot-fits {covers} known i h = record { fits = omega (arith, known .slotted i h, count-limit covers (known .table)) }

@@ -1,39 +1,38 @@
 // Test 9's cells and test 10: each cell's stores, found by its slot.
-ghost use mathlib.Core.Bool.{not, cond};
+ghost use mathlib.Core.Bool.{not};
 ghost use mathlib.Core.Path.{_≡_};
-ghost use Prim.Native.Nat.{_*_, _/_, _≤_, _<_};
+ghost use Prim.Native.Nat.{_*_, _≤_, _<_};
 ghost use lib.ListN.{length};
 ghost use Rattle.theory.specs.Lowest.{lowest};
-ghost use Rattle.paper.specs.Limits.{mostGross};
-ghost use Rattle.paper.specs.Covers.{entries, growingOf, dormantOf};
+ghost use Rattle.paper.specs.Limits.{mostAvailableWater, mostGross};
+ghost use Rattle.paper.specs.Covers.{entries};
 ghost use Rattle.records.specs.Calls.{todayOf};
+ghost use Rattle.survey.specs.Covers.{EntriesFit};
 ghost use Rattle.survey.specs.Cells.{SlotsFit};
 ghost use Rattle.records.specs.Places.{placeIn};
 ghost use Rattle.recharge.specs.Stores.{storesFrom, storesAt, fallFrom, deepFrom, deepAt};
+use crate::ground::ground_at;
+use crate::ground::is_open;
+use crate::ground::season_figure;
 use records::Depth;
 use records::Place;
 use records::Today;
+use records::place;
+use records::wide;
 
-fn wide(x: u32) -> u64
-    ensures { λ r. ⌜ (r ≡ x) × (r < 4294967296) ⌝ }
-{
-    x as u64
-}
-
-fn stores_fit(covers: &[u32], slot: usize, water: u32, soil: u32, snow: u32) -> bool
-    requires { ⌜ slot < 4 * entries (now covers) ⌝ }
+fn stores_fit(covers: &[u32], slot: usize, water: u64, soil: u32, snow: u32) -> bool
+    requires { ⌜ EntriesFit (now covers) × (slot < 4 * entries (now covers)) × (water ≤ mostAvailableWater) ⌝ }
     ensures { λ r. ⌜ r ≡ storesFrom (now (covers .entry)) slot water soil snow ⌝ }
 {
-    let e = slot / 4;
-    if covers[16 * e + 1] == 1 {
+    // The season has no say in the limits of a store.
+    let ground = ground_at(covers, slot, water, true);
+    if ground.open_water {
         if soil != 0 {
             return false;
         }
         return snow == 0;
     }
-    let group = slot % 4 + 1;
-    let depth = covers[16 * e + (11 + group)];
-    if wide(water) * wide(depth) < wide(soil) {
+    if ground.capacity.0 < wide(soil) {
         return false;
     }
     wide(snow) <= Depth::MOST_SNOW.0
@@ -53,25 +52,12 @@ pub(crate) fn bad_store(
     let n = water.len();
     let mut i = 0;
     while i < n {
-        if !stores_fit(covers, slots[i] as usize, water[i], soil[i], snow[i]) {
+        if !stores_fit(covers, place(slots[i]), wide(water[i]), soil[i], snow[i]) {
             return Place::At(i);
         }
         i += 1;
     }
     Place::Nowhere
-}
-
-// The cover's interception figure for the season.
-fn figure_at(covers: &[u32], slot: usize, growing: bool) -> u64
-    requires { ⌜ slot < 4 * entries (now covers) ⌝ }
-    ensures { λ r. ⌜ r ≡ cond growing (growingOf (now (covers .entry)) (slot / 4)) (dormantOf (now (covers .entry)) (slot / 4)) ⌝ }
-{
-    let e = slot / 4;
-    if growing {
-        wide(covers[16 * e + 10])
-    } else {
-        wide(covers[16 * e + 11])
-    }
 }
 
 // What falls on the store: the net precipitation where it snows, else nothing.
@@ -80,7 +66,7 @@ fn fall_at(covers: &[u32], slot: usize, growing: bool, snows: bool, gross: Depth
     ensures { λ r. ⌜ r .0 ≡ fallFrom (now (covers .entry)) slot growing snows (gross .0) ⌝ }
 {
     if snows {
-        gross.beyond(Depth(figure_at(covers, slot, growing)))
+        gross.beyond(season_figure(covers, slot, growing))
     } else {
         Depth(0)
     }
@@ -90,8 +76,7 @@ fn is_deep(covers: &[u32], slot: usize, growing: bool, snows: bool, gross: Depth
     requires { ⌜ (slot < 4 * entries (now covers)) × (gross .0 ≤ mostGross) ⌝ }
     ensures { λ r. ⌜ r ≡ deepFrom (now (covers .entry)) slot growing snows (gross .0) snow ⌝ }
 {
-    let e = slot / 4;
-    if covers[16 * e + 1] == 1 {
+    if is_open(covers, slot) {
         return false;
     }
     let fall = fall_at(covers, slot, growing, snows, gross);
@@ -115,7 +100,7 @@ pub(crate) fn too_deep(
     let n = water.len();
     let mut i = 0;
     while i < n {
-        if is_deep(covers, slots[i] as usize, growing, snows, gross, snow[i]) {
+        if is_deep(covers, place(slots[i]), growing, snows, gross, snow[i]) {
             return Place::At(i);
         }
         i += 1;

@@ -1,5 +1,4 @@
 -- `stores::bad_store` meets its contract: the cells that the search has passed all have stores that fit.
-use Rattle.recharge.proofs.StoreLaws.{slot-fits}
 use mathlib.Core.Bool.{not}
 use mathlib.Core.Path.{_≡_, ap, sym, _∙_}
 use Prim.Native.Nat.{_≤_, _-_}
@@ -21,41 +20,56 @@ abbrev μ-loop : tie.MeasureT-loop
 loop-holds : tie.Need-loop-holds Inv-loop μ-loop
 loop-holds c = (search needs, search needs, λ j h. absurd (not-suc-le-zero h))
 
+mul-place : tie.Need-mul-place Inv-loop μ-loop
+mul-place c = search needs
+
+element-copy-out-place : tie.Need-element-copy-out-place Inv-loop μ-loop
+element-copy-out-place c = search needs
+
+place-requires : tie.Need-place-requires Inv-loop μ-loop
+place-requires c κs = search needs
+
+mul-wide : tie.Need-mul-wide Inv-loop μ-loop
+mul-wide c = search needs
+
+shared-slice-read-wide : tie.Need-shared-slice-read-wide Inv-loop μ-loop
+shared-slice-read-wide c = search needs
+
+wide-requires : tie.Need-wide-requires Inv-loop μ-loop
+wide-requires c κs = search needs
+
 mul-stores-fit : tie.Need-mul-stores-fit Inv-loop μ-loop
 mul-stores-fit c = search needs
-
-element-copy-out-stores-fit : tie.Need-element-copy-out-stores-fit Inv-loop μ-loop
-element-copy-out-stores-fit c = search needs
-
-cast-stores-fit : tie.Need-cast-stores-fit Inv-loop μ-loop
-cast-stores-fit c = slot-fits (c .before .before .before .before .before .before .before .pre .0) _ (c .before .loop-test .taken)
-
-mul-stores-fit-2 : tie.Need-mul-stores-fit-2 Inv-loop μ-loop
-mul-stores-fit-2 c = search needs
 
 shared-slice-read-stores-fit : tie.Need-shared-slice-read-stores-fit Inv-loop μ-loop
 shared-slice-read-stores-fit c = search needs
 
-mul-stores-fit-3 : tie.Need-mul-stores-fit-3 Inv-loop μ-loop
-mul-stores-fit-3 c = search needs
+mul-stores-fit-2 : tie.Need-mul-stores-fit-2 Inv-loop μ-loop
+mul-stores-fit-2 c = search needs
 
 shared-slice-read-stores-fit-2 : tie.Need-shared-slice-read-stores-fit-2 Inv-loop μ-loop
 shared-slice-read-stores-fit-2 c = search needs
 
-mul-stores-fit-4 : tie.Need-mul-stores-fit-4 Inv-loop μ-loop
-mul-stores-fit-4 c = search needs
-
-shared-slice-read-stores-fit-3 : tie.Need-shared-slice-read-stores-fit-3 Inv-loop μ-loop
-shared-slice-read-stores-fit-3 c = search needs
-
 stores-fit-requires : tie.Need-stores-fit-requires Inv-loop μ-loop
-stores-fit-requires c κs = c .before .before .before .before .before .before .before .before .before .before .pre .0 .slotted _ (c .before .before .before .before .loop-test .taken)
+stores-fit-requires c κs =
+    let at-wide = c .before .before in
+    let at-place = at-wide .before .before in
+    let at-loop-test = at-place .before .before in
+    let fit = at-loop-test .before .before .before .before .before .before .pre .0 in (
+      fit .table,
+      rw (at-place .place .ensures) (fit .slotted _ (at-loop-test .loop-test .taken)),
+      rw (at-wide .wide .ensures) (fit .watered _ (at-loop-test .loop-test .taken)),
+    )
 
 returns : tie.Need-returns Inv-loop μ-loop
 unfolding storesAt
 returns c =
-    found-place _ _ _ (c .before .before .before .before .before .before .before .loop .inv .2) (c .before .before .before .before .before .before .loop-test .taken)
-    (ap not (sym (c .before .stores-fit .ensures)) ∙ c .if1 .taken)
+    let at-stores-fit = c .before in
+    let at-wide = at-stores-fit .before .before .before in
+    let at-place = at-wide .before .before in
+    let at-loop-test = at-place .before .before in
+    found-place _ _ _ (at-loop-test .before .loop .inv .2) (at-loop-test .loop-test .taken)
+    (rw (at-place .place .ensures, at-wide .wide .ensures) at (ap not (sym (at-stores-fit .stores-fit .ensures)) ∙ c .if1 .taken))
 
 add-i : tie.Need-add-i Inv-loop μ-loop
 add-i c = search needs
@@ -65,11 +79,16 @@ loop-less c = search needs
 
 loop-again : tie.Need-loop-again Inv-loop μ-loop
 unfolding storesAt
-loop-again c = (
-  search needs,
-  search needs,
-  below-more _ _ (c .before .before .before .before .before .before .before .loop .inv .2) (ap not (sym (c .before .stores-fit .ensures)) ∙ c .if1 .left),
-)
+loop-again c =
+    let at-stores-fit = c .before in
+    let at-wide = at-stores-fit .before .before .before in
+    let at-place = at-wide .before .before in
+    let at-loop-test = at-place .before .before in (
+      search needs,
+      search needs,
+      below-more _ _ (at-loop-test .before .loop .inv .2)
+          (rw (at-place .place .ensures, at-wide .wide .ensures) at (ap not (sym (at-stores-fit .stores-fit .ensures)) ∙ c .if1 .left)),
+    )
 
 returns-2 : tie.Need-returns-2 Inv-loop μ-loop
 returns-2 c = no-place _ _ _ (c .before .loop .inv .2) (c .loop-test .left)
@@ -81,15 +100,16 @@ bad-store-spec =
     Inv-loop
     μ-loop
     loop-holds
+    mul-place
+    element-copy-out-place
+    place-requires
+    mul-wide
+    shared-slice-read-wide
+    wide-requires
     mul-stores-fit
-    element-copy-out-stores-fit
-    cast-stores-fit
-    mul-stores-fit-2
     shared-slice-read-stores-fit
-    mul-stores-fit-3
+    mul-stores-fit-2
     shared-slice-read-stores-fit-2
-    mul-stores-fit-4
-    shared-slice-read-stores-fit-3
     stores-fit-requires
     returns
     add-i

@@ -7,19 +7,19 @@ use Rattle.recharge.proofs.StoreLaws.{net-beyond}
 use Rattle.recharge.proofs.stores.fall_at.Statement.{statement}
 use Rattle.recharge.proofs.stores.fall_at.Tie as tie
 
-figure-at-requires : tie.Need-figure-at-requires
-figure-at-requires c κs = search needs
+season-figure-requires : tie.Need-season-figure-requires
+season-figure-requires c κs = search needs
 
 beyond-requires : tie.Need-beyond-requires
 beyond-requires c κs = search needs
 
 returns : tie.Need-returns
 unfolding fallFrom given
-returns c = rw (c .before .before .if1 .taken) (c .beyond .ensures ∙ net-beyond _ _ _ (c .before .figure-at .ensures))
+returns c = rw (c .before .before .if1 .taken) (c .beyond .ensures ∙ net-beyond _ _ _ (c .before .season-figure .ensures))
 
 returns-2 : tie.Need-returns-2
 unfolding fallFrom given
 returns-2 c = rw (c .if1 .left)
 
 pub fall-at-spec : {M : Type 1} → statement M
-fall-at-spec = tie.close (tie.spec figure-at-requires beyond-requires returns returns-2)
+fall-at-spec = tie.close (tie.spec season-figure-requires beyond-requires returns returns-2)

@@ -1,5 +1,4 @@
 -- `stores::too_deep` meets its contract: no cell that the search has passed is too deep.
-use Rattle.recharge.proofs.StoreLaws.{slot-fits}
 use mathlib.Core.Path.{_≡_, sym, _∙_}
 use Prim.Native.Nat.{_≤_, _-_}
 use native.Mathlib.Nat.{not-suc-le-zero}
@@ -24,28 +23,36 @@ abbrev μ-loop : tie.MeasureT-loop
 loop-holds : tie.Need-loop-holds Inv-loop μ-loop
 loop-holds c = (search needs, search needs, λ j h. absurd (not-suc-le-zero h))
 
+mul-place : tie.Need-mul-place Inv-loop μ-loop
+mul-place c = search needs
+
+element-copy-out-place : tie.Need-element-copy-out-place Inv-loop μ-loop
+element-copy-out-place c = search needs
+
+place-requires : tie.Need-place-requires Inv-loop μ-loop
+place-requires c κs = search needs
+
 mul-is-deep : tie.Need-mul-is-deep Inv-loop μ-loop
 mul-is-deep c = search needs
-
-element-copy-out-is-deep : tie.Need-element-copy-out-is-deep Inv-loop μ-loop
-element-copy-out-is-deep c = search needs
-
-cast-is-deep : tie.Need-cast-is-deep Inv-loop μ-loop
-cast-is-deep c = slot-fits (c .before .before .before .before .before .before .before .pre .0) _ (c .before .loop-test .taken)
-
-mul-is-deep-2 : tie.Need-mul-is-deep-2 Inv-loop μ-loop
-mul-is-deep-2 c = search needs
 
 shared-slice-read-is-deep : tie.Need-shared-slice-read-is-deep Inv-loop μ-loop
 shared-slice-read-is-deep c = search needs
 
 is-deep-requires : tie.Need-is-deep-requires Inv-loop μ-loop
-is-deep-requires c κs = (c .before .before .before .before .before .before .before .before .pre .0 .slotted _ (c .before .before .loop-test .taken), c .before .before .before .before .before .before .before .before .pre .2)
+is-deep-requires c κs =
+    let at-place = c .before in
+    let at-loop-test = at-place .before .before in
+    let pre = at-loop-test .before .before .before .before .before .before .pre in
+    (rw (at-place .place .ensures) (pre .0 .slotted _ (at-loop-test .loop-test .taken)), pre .2)
 
 returns : tie.Need-returns Inv-loop μ-loop
 unfolding deepAt deepFrom fallFrom tooDeep storeOf netOf figureOf cellFrom
 returns c =
-    found-place _ _ _ (c .before .before .before .before .before .loop .inv .2) (c .before .before .before .before .loop-test .taken) (sym (c .before .is-deep .ensures) ∙ c .if1 .taken)
+    let at-is-deep = c .before in
+    let at-place = at-is-deep .before .before in
+    let at-loop-test = at-place .before .before in
+    found-place _ _ _ (at-loop-test .before .loop .inv .2) (at-loop-test .loop-test .taken)
+    (rw (at-place .place .ensures) at (sym (at-is-deep .is-deep .ensures) ∙ c .if1 .taken))
 
 add-i : tie.Need-add-i Inv-loop μ-loop
 add-i c = search needs
@@ -54,11 +61,15 @@ loop-less : tie.Need-loop-less Inv-loop μ-loop
 loop-less c = search needs
 
 loop-again : tie.Need-loop-again Inv-loop μ-loop
-loop-again c = (
-  search needs,
-  search needs,
-  below-more _ _ (c .before .before .before .before .before .loop .inv .2) (sym (c .before .is-deep .ensures) ∙ c .if1 .left),
-)
+loop-again c =
+    let at-is-deep = c .before in
+    let at-place = at-is-deep .before .before in
+    let at-loop-test = at-place .before .before in (
+      search needs,
+      search needs,
+      below-more _ _ (at-loop-test .before .loop .inv .2)
+          (rw (at-place .place .ensures) at (sym (at-is-deep .is-deep .ensures) ∙ c .if1 .left)),
+    )
 
 returns-2 : tie.Need-returns-2 Inv-loop μ-loop
 unfolding deepAt deepFrom fallFrom tooDeep storeOf netOf figureOf cellFrom
@@ -71,10 +82,10 @@ too-deep-spec =
     Inv-loop
     μ-loop
     loop-holds
+    mul-place
+    element-copy-out-place
+    place-requires
     mul-is-deep
-    element-copy-out-is-deep
-    cast-is-deep
-    mul-is-deep-2
     shared-slice-read-is-deep
     is-deep-requires
     returns
