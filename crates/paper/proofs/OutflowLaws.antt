@@ -63,9 +63,6 @@ unfolding excess
 outflow-rises {c} {w} {v} p h =
     rw (outflow-rule c w p, outflow-rule c v p) (rule-rises c _ (omega (arith, mul-le-mul-left c h)))
 
-pub outflow-more : (c w s : ℕ) → c ≤ 100 → outflow c w ≤ outflow c (w + s)
-outflow-more c w s p = outflow-rises p (omega arith)
-
 pub outflow-slack : (c w s : ℕ) → c ≤ 100 → outflow c (w + s) ≤ outflow c w + s
 unfolding excess
 outflow-slack c w s p =

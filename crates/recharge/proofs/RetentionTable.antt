@@ -24,10 +24,6 @@ pub table-built : built 2049 1048576 ≡ table
 unfolding table
 table-built = ap (λ (x : ℕ). built 2049 x) (sym F-start) ∙ from 2049 F F-next
 
-pub table-length : length table ≡ 2049
-unfolding table
-table-length = made-length 2049 F
-
 pub table-at : (k : ℕ) → k < 2049 → getD table k 0 ≡ F k
 unfolding table
 table-at k h = made-at 2049 F 0 k h

@@ -58,7 +58,3 @@ module _ (covers : List ℕ) (fit : EntriesFit covers) (slot : ℕ) (h : slot < 
   pub slot-capacity : (water way : ℕ) → water ≤ 600 → cellFrom covers slot water way .capacity ≤ mostCapacity
   unfolding cellFrom
   slot-capacity water way w = mul-le-mul w root-depth-limit
-
--- the slots and the table without the cells' available water
-pub slots-of : {covers : List ℕ} {n : ℕ} {slots water : List ℕ} → SlotsFit covers n slots water → Slotted covers n slots
-slots-of fit = record { table = fit .table; few = fit .few; sized = fit .sized; slotted = fit .slotted }

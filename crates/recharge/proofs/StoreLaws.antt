@@ -29,11 +29,6 @@ module _ (covers : List ℕ) (slot water way : ℕ) where
   unfolding storesFrom mostSoilOf mostSnowOf cellFrom
   stores-any soil snow = refl
 
-  pub deep-any : (t : Today) (snow : ℕ)
-      → deepFrom covers slot (t .growing?) (t .snows?) (t .gross) snow ≡ tooDeep (cellFrom covers slot water way) t snow
-  unfolding deepFrom fallFrom tooDeep storeOf netOf figureOf cellFrom
-  deep-any t snow = refl
-
   -- by the ground that the slot finds: on open water, past the capacity, and within it
   module _ (soil snow : ℕ) (growing : Bool) (g : Ground) (stands : Stands (cellFrom covers slot water way) growing g) where
     pub stores-open : g .«open_water» ≡ true → (eqb soil 0 && eqb snow 0) ≡ storesFrom covers slot water soil snow

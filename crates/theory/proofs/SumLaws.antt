@@ -69,13 +69,6 @@ unfolding given
 given-most true x = le-refl x
 given-most false x = zero-le
 
-pub eqb-sym : (a b : ℕ) → eqb a b ≡ eqb b a
-eqb-sym a b = go (eqb a b) refl
-  where
-    go : (t : Bool) → eqb a b ≡ t → t ≡ eqb b a
-    go true e = sym (eq-eqb b a (sym (eqb-true a b e)))
-    go false e = sym (ne-eqb b a (λ q. eqb-false a b e (sym q)))
-
 -- where no test passes there is nothing to add
 sum-off : (n : ℕ) (p : ℕ → Bool) (f : ℕ → ℕ) → ((i : ℕ) → i < n → p i ≡ true → ⊥) → sum n (λ i. given (p i) (f i)) ≡ 0
 unfolding given

@@ -2,6 +2,7 @@
 use mathlib.Core.Path.{sym, _∙_}
 use borrow.Author.Needs.{needs}
 use borrow.Author.Tests.{le-leb, lt-leb, not-true, not-false}
+use Rattle.paper.specs.Limits.{mostGross}
 use Rattle.paper.specs.State.{dayFits}
 use Rattle.records.proofs.limits.day_fits.Statement.{statement}
 use Rattle.records.proofs.limits.day_fits.Tie as tie
@@ -34,7 +35,7 @@ returns-4 c =
       le-leb _ _ (c .before .before .before .before .if1 .left),
       le-leb _ _ (c .before .before .before .if2 .left),
       le-leb _ _ (c .before .before .if3 .left),
-      lt-leb _ _ (c .if4 .taken),
+      lt-leb _ mostGross (c .if4 .taken),
     )
 
 measured-requires : tie.Need-measured-requires

@@ -1,4 +1,5 @@
 -- `limits::follows` meets its contract: each case of the last serial is the paper's, and one more than a serial of 32 bits fits 64.
+use mathlib.Core.Path.{refl}
 use borrow.Author.Needs.{needs}
 use Rattle.paper.specs.State.{follows}
 use Rattle.records.proofs.limits.follows.Statement.{statement}
@@ -22,7 +23,7 @@ returns c = cc
 
 returns-2 : tie.Need-returns-2
 unfolding follows
-returns-2 c = cc
+returns-2 c = rw (c .before .last .given .1) refl
 
 pub follows-spec : {M : Type 1} → statement M
 follows-spec =
