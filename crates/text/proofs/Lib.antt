@@ -8,3 +8,5 @@ pub mod SignLaws
 pub mod ScreenLaws
 pub mod LayingLaws
 pub mod PrintedLaws
+pub mod RunLaws
+pub mod StartLaws

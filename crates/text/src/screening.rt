@@ -13,7 +13,7 @@ pub(crate) enum Screened {
     Ready(usize),
 }
 
-const TEXT: u64 = 11;
+pub(crate) const TEXT: u64 = 11;
 
 // The product of width and height can pass 32 bits, so the height is held to a quotient.
 fn grid_fits(width: u32, height: u32) -> bool
@@ -47,13 +47,13 @@ fn complete(count: usize, needed: usize) -> bool
     (count - needed) % 7 == 0
 }
 
-fn wide(count: usize) -> u64
+pub(crate) fn wide(count: usize) -> u64
     ensures { λ r. ⌜ r ≡ count ⌝ }
 {
     count as u64
 }
 
-fn place(x: u32) -> usize
+pub(crate) fn place(x: u32) -> usize
     ensures { λ r. ⌜ r ≡ x ⌝ }
 {
     x as usize
