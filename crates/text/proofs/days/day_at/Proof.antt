@@ -2,8 +2,17 @@
 use borrow.Author.Needs.{needs}
 use Rattle.text.proofs.days.day_at.Statement.{statement}
 use Rattle.text.proofs.days.day_at.Tie as tie
-use Prim.Native.Nat.{_+_, _*_}
+use Prim.Native.Nat.{ℕ, _<_}
+use lib.ListN.{getD}
 use Rattle.text.proofs.RunLaws.{day-fields}
+
+-- the places that the needs name: the gross figure's cast and the start
+abbrev start : tie.After-wide → tie.Start
+start gross = gross .before .before .before .before .before
+
+-- a number's code is below two thousand million
+small : (gross : tie.After-wide) (i : ℕ) → getD (start gross .args .numbers .now) i 0 < 2000000000
+small gross = start gross .pre .0 .small
 
 mul-at : tie.Need-mul-at
 mul-at c = search needs
@@ -48,7 +57,7 @@ shared-slice-read-tenths : tie.Need-shared-slice-read-tenths
 shared-slice-read-tenths c = search needs
 
 tenths-requires : tie.Need-tenths-requires
-tenths-requires c κs = let start = c .before .before .before .before .before .before in start .pre .0 .small (start .args .from + 7 * start .args .k + 3)
+tenths-requires c κs = small (c .before) _
 
 add-tenths-2 : tie.Need-add-tenths-2
 add-tenths-2 c = search needs
@@ -60,7 +69,7 @@ shared-slice-read-tenths-2 : tie.Need-shared-slice-read-tenths-2
 shared-slice-read-tenths-2 c = search needs
 
 tenths-requires-2 : tie.Need-tenths-requires-2
-tenths-requires-2 c κs = let start = c .before .before .before .before .before .before .before .before in start .pre .0 .small (start .args .from + 7 * start .args .k + 4)
+tenths-requires-2 c κs = small (c .before .before .before) _
 
 add-tenths-3 : tie.Need-add-tenths-3
 add-tenths-3 c = search needs
@@ -72,7 +81,7 @@ shared-slice-read-tenths-3 : tie.Need-shared-slice-read-tenths-3
 shared-slice-read-tenths-3 c = search needs
 
 tenths-requires-3 : tie.Need-tenths-requires-3
-tenths-requires-3 c κs = let start = c .before .before .before .before .before .before .before .before .before .before in start .pre .0 .small (start .args .from + 7 * start .args .k + 5)
+tenths-requires-3 c κs = small (c .before .before .before .before .before) _
 
 add-wide-2 : tie.Need-add-wide-2
 add-wide-2 c = search needs
@@ -91,8 +100,9 @@ returns c = let third = c .before .before in
     let second = third .before .before in
     let first = second .before .before in
     let gross = first .before .before in
-    let start = gross .before .before .before .before .before in
-    day-fields (start .args .numbers .now) (start .pre .0) _ _ (start .pre .1) _ _ _ _ _ (gross .wide .ensures) (first .tenths .ensures) (second .tenths2 .ensures) (third .tenths3 .ensures) (c .wide2 .ensures)
+    let p = start gross .pre in
+    day-fields (start gross .args .numbers .now) (p .0) _ _ (p .1) _ _ _ _ _ (gross .wide .ensures)
+    (first .tenths .ensures) (second .tenths2 .ensures) (third .tenths3 .ensures) (c .wide2 .ensures)
 
 pub day-at-spec : {M : Type 1} → statement M
 day-at-spec =

@@ -62,7 +62,10 @@ returns-3 : tie.Need-returns-3
 returns-3 c = let refused = c .before .before in
     let told = refused .before .before .before .before in
     let read = told .before .before in
-    whole-text (read-broken _ _ _ _ (read .read .ensures) (read .before .before .if1 .left) (told .count2 .given .1) ∙ ap (refusedLine 11) (sym (refused .before .wide .ensures))) (omega arith) (refused .refused2 .ensures)
+    whole-text
+    (read-broken _ _ _ _ (read .read .ensures) (read .before .before .if1 .left) (told .count2 .given .1) ∙ ap (refusedLine 11) (sym (refused .before .wide .ensures)))
+    (omega arith)
+    (refused .refused2 .ensures)
 
 pub text-spec : {M : Type 1} → statement M
 text-spec =

@@ -3,71 +3,82 @@ use borrow.Author.Needs.{needs}
 use Rattle.text.proofs.starting.started.Statement.{statement}
 use Rattle.text.proofs.starting.started.Tie as tie
 use mathlib.Core.Path.{ap}
-use Prim.Native.Nat.{_*_}
+use Prim.Native.Nat.{_*_, _≤_}
 use native.Mathlib.Omega.{arith}
 use Rattle.text.specs.Program.{coverCount}
 use Rattle.text.proofs.RunLaws.{part-length}
 use Rattle.text.proofs.StartLaws.{five, fits, spaced, lent}
 
+-- the places that the needs name: the count of covers and the start
+abbrev start : tie.After-place → tie.Start
+start place = place .before .before .before .before
+
+abbrev place : tie.After-direction → tie.After-place
+place direction = direction .before .before
+
+cells-fit : (direction : tie.After-direction) → start (place direction) .args .cells ≤ 4096
+cells-fit direction = fits _ _ (start (place direction) .pre .0)
+
+covers-fit : (place : tie.After-place) → 16 * place .place .result ≤ 1024
+unfolding coverCount
+covers-fit place = omega (arith, place .place .ensures, start place .pre .0 .covers)
+
 shared-slice-read-place : tie.Need-shared-slice-read-place
-shared-slice-read-place c = let start = c .before .before .before in omega (arith, five _ (start .pre .0 .numbers))
+shared-slice-read-place c = omega (arith, five _ (c .before .before .before .pre .0 .numbers))
 
 place-requires : tie.Need-place-requires
 place-requires c κs = search needs
 
 mul-table : tie.Need-mul-table
-unfolding coverCount
-mul-table c = let start = c .before .before .before .before in omega (arith, c .place .ensures, start .pre .0 .covers)
+mul-table c = omega (arith, covers-fit c)
 
 array-borrow-prefix-covers : tie.Need-array-borrow-prefix-covers
-unfolding coverCount
-array-borrow-prefix-covers c = let start = c .before .before .before .before in omega (arith, c .place .ensures, start .pre .0 .covers)
+array-borrow-prefix-covers c = covers-fit c
 
 slice-aggregate-laid-out : tie.Need-slice-aggregate-laid-out
-unfolding coverCount
-slice-aggregate-laid-out c = let start = c .before .before .before .before .before in part-length _ 1024 (omega (arith, c .before .place .ensures, start .pre .0 .covers))
+slice-aggregate-laid-out c = part-length _ 1024 (covers-fit (c .before))
 
 array-borrow-prefix-direction : tie.Need-array-borrow-prefix-direction
 array-borrow-prefix-direction c = search needs
 
 slice-aggregate-laid-out-2 : tie.Need-slice-aggregate-laid-out-2
-slice-aggregate-laid-out-2 c = let start = c .before .before .before .before .before .before in part-length _ 4096 (fits _ _ (start .pre .0))
+slice-aggregate-laid-out-2 c = part-length _ 4096 (cells-fit c)
 
 array-borrow-prefix-cover : tie.Need-array-borrow-prefix-cover
 array-borrow-prefix-cover c = search needs
 
 slice-aggregate-laid-out-3 : tie.Need-slice-aggregate-laid-out-3
-slice-aggregate-laid-out-3 c = let start = c .before .before .before .before .before .before .before in part-length _ 4096 (fits _ _ (start .pre .0))
+slice-aggregate-laid-out-3 c = part-length _ 4096 (cells-fit (c .before))
 
 array-borrow-prefix-group : tie.Need-array-borrow-prefix-group
 array-borrow-prefix-group c = search needs
 
 slice-aggregate-laid-out-4 : tie.Need-slice-aggregate-laid-out-4
-slice-aggregate-laid-out-4 c = let start = c .before .before .before .before .before .before .before .before in part-length _ 4096 (fits _ _ (start .pre .0))
+slice-aggregate-laid-out-4 c = part-length _ 4096 (cells-fit (c .before .before))
 
 array-borrow-prefix-water : tie.Need-array-borrow-prefix-water
 array-borrow-prefix-water c = search needs
 
 slice-aggregate-laid-out-5 : tie.Need-slice-aggregate-laid-out-5
-slice-aggregate-laid-out-5 c = let start = c .before .before .before .before .before .before .before .before .before in part-length _ 4096 (fits _ _ (start .pre .0))
+slice-aggregate-laid-out-5 c = part-length _ 4096 (cells-fit (c .before .before .before))
 
 array-borrow-prefix-soil : tie.Need-array-borrow-prefix-soil
 array-borrow-prefix-soil c = search needs
 
 slice-aggregate-laid-out-6 : tie.Need-slice-aggregate-laid-out-6
-slice-aggregate-laid-out-6 c = let start = c .before .before .before .before .before .before .before .before .before .before in part-length _ 4096 (fits _ _ (start .pre .0))
+slice-aggregate-laid-out-6 c = part-length _ 4096 (cells-fit (c .before .before .before .before))
 
 array-borrow-prefix-snow : tie.Need-array-borrow-prefix-snow
 array-borrow-prefix-snow c = search needs
 
 slice-aggregate-laid-out-7 : tie.Need-slice-aggregate-laid-out-7
-slice-aggregate-laid-out-7 c = let start = c .before .before .before .before .before .before .before .before .before .before .before in part-length _ 4096 (fits _ _ (start .pre .0))
+slice-aggregate-laid-out-7 c = part-length _ 4096 (cells-fit (c .before .before .before .before .before))
 
 laid-out-requires : tie.Need-laid-out-requires
 unfolding coverCount
-laid-out-requires c κs = let place = c .before .before .before .before .before .before .before .before in
-    let start = place .before .before .before .before in
-    (spaced _ _ (start .pre .0) _ (ap (_*_ 16) (place .place .ensures)), lent _ _ (start .pre .0) _ (start .pre .1) (start .pre .2))
+laid-out-requires c κs = let at = place (c .before .before .before .before .before .before) in
+    let p = start at .pre in
+    (spaced _ _ (p .0) _ (ap (_*_ 16) (at .place .ensures)), lent _ _ (p .0) _ (p .1) (p .2))
 
 same-length : tie.Need-same-length
 same-length c = search needs
