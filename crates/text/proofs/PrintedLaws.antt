@@ -7,6 +7,7 @@ use native.Mathlib.Omega.{arith}
 use lib.ListN.{length, take, replicate, length-replicate}
 use lib.Seq.{length-sets}
 use borrow.Author.Tests.{lt-ltb, le-ltb}
+use Rattle.theory.proofs.Cases.{below-or-not}
 use Rattle.text.specs.Words.{reading, codes}
 use Rattle.text.specs.Lines.{refusedLine}
 use Rattle.text.specs.Program.{mostBytes, runText, screen, screenText, numbersText, formText, printed}
@@ -16,6 +17,7 @@ use Rattle.text.specs.Writing.{Wrote}
 use Rattle.text.specs.declared.reading.Form.{Form}
 use Rattle.text.specs.declared.reading.Form.the-variants.{Whole, Broken}
 use Rattle.text.specs.declared.screening.Screened.the-variants.{Refused, Ready}
+use Rattle.text.specs.declared.program.Written.{Written}
 use Rattle.text.specs.declared.program.Written.the-variants.{NoRoom, Bytes}
 use Rattle.text.proofs.ReaderLaws.{codes-length, front, codes-small}
 use Rattle.text.proofs.WritingLaws.{wrote-as}
@@ -87,7 +89,12 @@ module _ (input : List ℕ) where
         bad-form short (f .0) ∙ ap (refusedLine 11) (f .1)
 
   pub no-room : (before : List ℕ) → length before < mostText → Printed input before before NoRoom
-  no-room before h = record { answer = rw (lt-ltb (length before) mostText h) refl; buffer = rw (lt-ltb (length before) mostText h) refl }
+  no-room before h =
+      record {
+        answer = rw (lt-ltb (length before) mostText h) refl;
+        buffer = rw (lt-ltb (length before) mostText h) refl;
+        short = λ room. absurd (omega arith);
+      }
 
   pub with-room :
       (before after : List ℕ) (next : ℕ) → mostText ≤ length before → Wrote mostText 0 (printed input) before after next
@@ -97,4 +104,18 @@ module _ (input : List ℕ) where
       record {
         answer = rw (le-ltb (length before) mostText h) (ap Bytes count);
         buffer = rw (le-ltb (length before) mostText h) (w .buffer);
+        short = λ room. w .short;
       }
+
+  -- the count that is answered lies within the buffer
+  pub text-within : {before after : List ℕ} {r : Written} (n : ℕ) → Printed input before after r → r ≡ Bytes n → n ≤ length after
+  text-within {before} {after} n p e =
+      below-or-not (length before) mostText
+      (λ h.
+      let none : NoRoom ≡ Bytes n = sym (rw (lt-ltb (length before) mostText h) at (p .answer)) ∙ e in
+      absurd (let z : _≡_ {A = ℕ} 0 1 = cc in omega arith))
+      (λ h.
+      let bytes : Bytes (length (printed input)) ≡ Bytes n = sym (rw (le-ltb (length before) mostText h) at (p .answer)) ∙ e in
+      let count : n ≡ length (printed input) = cc in
+      let long = ap length (rw (le-ltb (length before) mostText h) at (p .buffer)) ∙ length-sets before 0 (printed input) in
+      omega (arith, p .short h))

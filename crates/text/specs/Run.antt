@@ -73,7 +73,8 @@ pub record Tells (at serial : ℕ) (totals : paper.Totals) (verdict : Verdict) (
   pub buffer : after ≡ sets before at (lineOf serial totals verdict)
   pub short : length (lineOf serial totals verdict) ≤ 168
 
--- the program's promise: without room nothing is written; else the whole text, from the buffer's front on, and its length
+-- the program's promise: without room nothing is written; else the whole text, from the buffer's front on, and its length, which is within the buffer
 pub record Printed (input before after : List ℕ) (r : Written) : Type 0 where
   pub answer : r ≡ cond (ltb (length before) mostText) NoRoom (Bytes (length (printed input)))
   pub buffer : after ≡ cond (ltb (length before) mostText) before (sets before 0 (printed input))
+  pub short : mostText ≤ length before → length (printed input) ≤ mostText
