@@ -18,7 +18,7 @@ use Rattle.text.specs.Program.{field, coverCount, cellCount, cellsFrom, 
 use Rattle.text.specs.Refusals.{saidOf}
 use Rattle.text.specs.Run.{mostText, Coded, Complete, Lent, DaysReady}
 use Rattle.text.specs.declared.refusals.Spoken.the-variants.{Accepted, Refused}
-use Rattle.text.proofs.RunLaws.{zeros, part-length}
+use Rattle.text.proofs.OneDayLaws.{zeros, part-length}
 
 pub five : (ns : List ℕ) → daysFrom ns ≤ length ns → 5 ≤ length ns
 unfolding daysFrom cellsFrom

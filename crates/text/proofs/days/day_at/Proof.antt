@@ -4,7 +4,7 @@ use Rattle.text.proofs.days.day_at.Statement.{statement}
 use Rattle.text.proofs.days.day_at.Tie as tie
 use Prim.Native.Nat.{ℕ, _<_}
 use lib.ListN.{getD}
-use Rattle.text.proofs.RunLaws.{day-fields}
+use Rattle.text.proofs.OneDayLaws.{day-fields}
 
 -- the places that the needs name: the gross figure's cast and the start
 abbrev start : tie.After-wide → tie.Start

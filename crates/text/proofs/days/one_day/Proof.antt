@@ -2,7 +2,7 @@
 use borrow.Author.Needs.{needs}
 use Rattle.text.proofs.days.one_day.Statement.{statement}
 use Rattle.text.proofs.days.one_day.Tie as tie
-use Rattle.text.proofs.RunLaws.{part-length, one-day}
+use Rattle.text.proofs.OneDayLaws.{part-length, one-day}
 
 array-borrow-prefix-intercepted : tie.Need-array-borrow-prefix-intercepted
 array-borrow-prefix-intercepted c = search needs

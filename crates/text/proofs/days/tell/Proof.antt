@@ -3,7 +3,7 @@ use borrow.Author.Needs.{needs}
 use Rattle.text.proofs.days.tell.Statement.{statement}
 use Rattle.text.proofs.days.tell.Tie as tie
 use mathlib.Core.Path.{sym, _∙_}
-use Rattle.text.proofs.RunLaws.{tells-line, tells-refusal}
+use Rattle.text.proofs.OneDayLaws.{tells-line, tells-refusal}
 
 said-requires : tie.Need-said-requires
 said-requires c κs = search needs

@@ -6,7 +6,7 @@ use mathlib.Core.Path.{ap}
 use Prim.Native.Nat.{_*_, _≤_}
 use native.Mathlib.Omega.{arith}
 use Rattle.text.specs.Program.{coverCount}
-use Rattle.text.proofs.RunLaws.{part-length}
+use Rattle.text.proofs.OneDayLaws.{part-length}
 use Rattle.text.proofs.StartLaws.{five, fits, spaced, lent}
 
 -- the places that the needs name: the count of covers and the start
