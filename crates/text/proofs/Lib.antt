@@ -8,3 +8,6 @@ pub mod SignLaws
 pub mod ScreenLaws
 pub mod LayingLaws
 pub mod PrintedLaws
+pub mod OneDayLaws
+pub mod RunLaws
+pub mod StartLaws

@@ -226,7 +226,7 @@ module _ (before : List ℕ) (all : Found) (i : ℕ) (b : ℕ) (bs : List ℕ) w
         (λ e. stops-blank (endOf begun) e refl (rw e at (t .numbers)) (rw e at (t .result)))
         (λ e. let et : Stopped ≡ Going (withByte begun b) count = rw e at (t .result) in absurd (let z : _≡_ {A = ℕ} 0 1 = cc in omega arith))
 
-codes-length : (zs : List ℤ) → length (codes zs) ≡ length zs
+pub codes-length : (zs : List ℤ) → length (codes zs) ≡ length zs
 unfolding codes
 codes-length [] = refl
 codes-length (z ∷ zs) = ap suc (codes-length zs)

@@ -10,6 +10,7 @@ use borrow.Author.Tests.{lt-ltb, le-ltb, leb-true}
 use Rattle.theory.proofs.Cases.{byCases, below-or-not, and-left, and-right}
 use Rattle.paper.specs.Setup.{cells, gridFits}
 use Rattle.text.specs.Program.{field, coverCount, cellCount, cellsFrom, daysFrom, isComplete, setup, screen}
+use Rattle.text.specs.Run.{Complete}
 use Rattle.text.specs.declared.screening.Screened.the-variants.{Refused, Ready}
 
 -- the tests as the code has them
@@ -59,13 +60,6 @@ module _ (ns : List ℕ) where
           pub is-ready : hasAll (length ns) (needs ns) ≡ true → Ready (field ns 0 * field ns 1) ≡ screen ns
           unfolding screen gridFits cells setup coverCount isComplete daysFrom cellsFrom cellCount
           is-ready e = simp (le-ltb (length ns) 2 two, grid, le-ltb (length ns) 5 five, covers, e)
-
--- what is ready for the run
-pub record Complete (ns : List ℕ) (k : ℕ) : Type 0 where
-  pub counted : k ≡ cellCount ns
-  pub cells : cellCount ns ≤ 4096
-  pub covers : coverCount ns ≤ 64
-  pub numbers : daysFrom ns ≤ length ns
 
 pub ready : (ns : List ℕ) (k : ℕ) → screen ns ≡ Ready k → Complete ns k
 unfolding coverCount cellCount daysFrom cellsFrom

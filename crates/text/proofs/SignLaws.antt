@@ -9,6 +9,7 @@ use mir.Syntax.{w32}
 use mir.Val.{SFits, toZ, ofZ}
 use mir.Facts.{toZ-ofZ, toZ-pos}
 use borrow.Author.Tests.{lt-ltb, le-ltb}
+use Rattle.theory.proofs.Cases.{below-or-not}
 use Rattle.text.specs.Words.{negatives, code, signed}
 
 below-zero : (c : ℕ) → negatives < c → pos 1000000000 -ℤ pos c ≡ negsuc (c - (negatives + 1))
@@ -29,6 +30,16 @@ module _ (c : ℕ) (small : c < 2000000000) where
   pub plain-signed : c ≤ negatives → toZ w32 c ≡ signed c
   unfolding signed
   plain-signed h = plain ∙ rw (le-ltb negatives c h) refl
+
+  signed-fits : SFits w32 (signed c)
+  unfolding signed
+  signed-fits =
+      below-or-not negatives c (λ h. rw (lt-ltb negatives c h) (record { sfits = omega arith }))
+      (λ h. rw (le-ltb negatives c h) (record { sfits = omega arith }))
+
+  -- kept in a field of a record
+  pub signed-kept : (z : ℤ) → z ≡ signed c → toZ w32 (ofZ w32 z) ≡ signed c
+  signed-kept z e = toZ-ofZ (rw e signed-fits) ∙ e
 
 -- numbers of at most nine digits
 pub code-back : (z : ℤ) → mag z < negatives → signed (code z) ≡ z

@@ -7,3 +7,4 @@ pub mod Writing
 pub mod Examples
 pub mod Refusals
 pub mod Laying
+pub mod Run

@@ -1,0 +1,134 @@
+-- A run's start: the slices laid out are the paper's setup, and the fresh state on them, or its refusal, decides the whole text.
+use mathlib.Core.Path.{_≡_, refl, sym, ap, _∙_}
+use mathlib.Core.List.{List}
+use Prim.Native.Nat.{ℕ, _+_, _*_, _≤_}
+use native.Mathlib.Omega.{arith}
+use lib.ListN.{length, take, replicate}
+use Rattle.theory.specs.Lists.{made}
+use Rattle.theory.proofs.ListLaws.{made-length}
+use Rattle.paper.specs.Day.{Fresh, freshOf}
+use Rattle.paper.specs.Refusals.{Verdict, accepted, refused, numberOf, placeOf}
+use Rattle.paper.specs.Setup as paper
+use Rattle.paper.specs.State.{State}
+use Rattle.records.specs.Calls.{setupOf}
+use Rattle.records.specs.declared.answers.Setup.{Setup}
+use Rattle.text.specs.Laying.{Spaced, Laid}
+use Rattle.text.specs.Lines.{refusedLine}
+use Rattle.text.specs.Program.{field, coverCount, cellCount, cellsFrom, daysFrom, dayCount, dayAt, setup, refusal, noResults, daysText, freshText, startText, runText}
+use Rattle.text.specs.Refusals.{saidOf}
+use Rattle.text.specs.Run.{mostText, Coded, Complete, Lent, DaysReady}
+use Rattle.text.specs.declared.refusals.Spoken.the-variants.{Accepted, Refused}
+use Rattle.text.proofs.OneDayLaws.{zeros, part-length}
+
+pub five : (ns : List ℕ) → daysFrom ns ≤ length ns → 5 ≤ length ns
+unfolding daysFrom cellsFrom
+five ns h = omega arith
+
+-- a part of an array of zeros for each slice
+module _ (ns : List ℕ) (cells : ℕ) (c : Complete ns cells) where
+  pub fits : cells ≤ 4096
+  fits = omega (arith, c .counted, c .cells)
+
+  abbrev part : List ℕ
+  part = take cells (replicate 4096 0)
+
+  part-cells : length part ≡ cellCount ns
+  part-cells = sym (part-length cells 4096 fits) ∙ c .counted
+
+  pub spaced : (table : ℕ) → table ≡ 16 * coverCount ns → Spaced ns (take table (replicate 1024 0)) part part part part
+  spaced table e =
+      record {
+        numbers = c .numbers;
+        table = sym (part-length table 1024 (omega (arith, e, c .covers))) ∙ e;
+        directions = part-cells;
+        codes = part-cells;
+        groups = part-cells;
+        waters = part-cells;
+      }
+
+  pub lent : (output : List ℕ) → Coded ns → mostText ≤ length output → Lent ns part part output
+  lent output coded room =
+      record {
+        coded = coded;
+        numbers = c .numbers;
+        few = c .cells;
+        soils = zeros cells 4096 fits ∙ ap (λ (n : ℕ). replicate n 0) (c .counted);
+        snows = zeros cells 4096 fits ∙ ap (λ (n : ℕ). replicate n 0) (c .counted);
+        room = room;
+      }
+
+module _
+    (ns covers direction cover group water soil snow output : List ℕ)
+    (laid : Laid ns covers direction cover group water)
+    (lent : Lent ns soil snow output)
+  where
+    abbrev grid : Setup
+    grid = record { width = field ns 0; height = field ns 1; first = field ns 2; last = field ns 3 }
+
+    abbrev here : paper.Setup
+    here = setupOf grid covers direction cover group water
+
+    table-length : length covers ≡ 16 * coverCount ns
+    unfolding setup
+    table-length = ap length (laid .table) ∙ made-length _ _
+
+    each : length direction ≡ cellCount ns
+    unfolding setup
+    each = ap length (laid .directions) ∙ made-length _ _
+
+    pub days-ready : DaysReady ns (5 + length covers + 4 * length direction) grid direction output
+    unfolding daysFrom cellsFrom cellCount
+    days-ready =
+        record {
+          coded = lent .coded;
+          start = omega (arith, table-length, each);
+          numbers = lent .numbers;
+          cells = each;
+          few = omega (arith, each, lent .few);
+          room = lent .room;
+        }
+
+    same-setup : here ≡ setup ns
+    unfolding setup
+    same-setup = λ k. record {
+      width = field ns 0;
+      height = field ns 1;
+      first = field ns 2;
+      last = field ns 3;
+      covers = laid .table k;
+      direction = laid .directions k;
+      cover = laid .codes k;
+      group = laid .groups k;
+      water = laid .waters k;
+    }
+
+    abbrev first : Fresh
+    first = freshOf (setup ns) (replicate (cellCount ns) 0) (replicate (cellCount ns) 0)
+
+    module _ (st : State) where
+      -- what the library says of the slices is what the paper says of the setup
+      of-setup :
+          (v : Verdict) → record { verdict = v; state = st } ≡ freshOf here soil snow → record { verdict = v; state = st } ≡ first
+      of-setup v q = q ∙ (λ k. freshOf (same-setup k) (lent .soils k) (lent .snows k))
+
+      pub start-refused :
+          (v : Verdict) (number place : ℕ) → record { verdict = v; state = st } ≡ freshOf here soil snow → saidOf v ≡ Refused number place
+          → runText ns ≡ refusedLine number place
+      unfolding runText startText freshText refusal saidOf
+      start-refused accepted number place q e = absurd (let z : _≡_ {A = ℕ} 0 1 = cc in omega arith)
+      start-refused (refused why) number place q e =
+          let n : numberOf why ≡ number = cc in
+          let p : placeOf why ≡ place = cc in
+          sym (ap (freshText (setup ns) (made (dayCount ns) (dayAt ns)) first) (ap (λ (f : Fresh). f .verdict) (of-setup (refused why) q)))
+          ∙ rw (n, p) refl
+
+      pub start-runs :
+          (v : Verdict) → record { verdict = v; state = st } ≡ freshOf here soil snow → saidOf v ≡ Accepted
+          → runText ns ≡ daysText here st (noResults (length direction)) 0 (made (dayCount ns) (dayAt ns))
+      unfolding runText startText freshText saidOf paper.cells cellCount setup
+      start-runs accepted q e =
+          sym (
+          (λ k. daysText (same-setup k) (of-setup accepted q k .state) (noResults (each k)) 0 (made (dayCount ns) (dayAt ns)))
+          ∙ ap (freshText (setup ns) (made (dayCount ns) (dayAt ns)) first) (ap (λ (f : Fresh). f .verdict) (of-setup accepted q))
+          )
+      start-runs (refused why) q e = absurd (let z : _≡_ {A = ℕ} 0 1 = cc in omega arith)

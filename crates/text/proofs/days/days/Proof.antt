@@ -1,0 +1,153 @@
+-- `days::days` meets its contract. The loop's invariant: the run is underway, so that what stands in the buffer and the text of the days that are
+-- left are the whole text; a day takes at most 168 bytes. The laws of a run underway are the loop's three ways on.
+use Rattle.text.proofs.days.days.Statement.{statement}
+use Rattle.text.proofs.days.days.Tie as tie
+use mathlib.Core.Path.{_≡_}
+use Prim.Native.Nat.{_-_, _≤_, _<_}
+use native.Mathlib.Omega.{arith}
+use borrow.Author.Needs.{needs}
+use lib.ListN.{length}
+use Rattle.theory.specs.Lists.{made}
+use Rattle.paper.specs.Setup.{cells}
+use Rattle.records.specs.Calls.{setupOf, stateOf, dayIn}
+use Rattle.text.specs.Program.{dayCount, dayAt}
+use Rattle.text.proofs.RunLaws.{Underway, underway-first, day-count, all-told, told-last, told-more}
+
+abbrev Inv-loop : tie.InvT-loop
+Inv-loop numbers from setup covers direction cover group water soil₀ snow₀ output₀ count memory₀ last₀ at₀ done₀ k₀ soil snow output memory last at done k =
+    (k ≤ count) × (length soil ≡ length soil₀) × (length snow ≡ length snow₀)
+    × Underway (setupOf setup covers direction cover group water) (length direction) (stateOf soil₀ snow₀ memory₀ last₀) (made (dayCount numbers) (dayAt numbers)) output₀ output (stateOf soil snow memory last) at done k
+
+abbrev μ-loop : tie.MeasureT-loop
+μ-loop numbers from setup covers direction cover group water soil₀ snow₀ output₀ count memory₀ last₀ at₀ done₀ k₀ soil snow output memory last at done k =
+    count - k
+
+-- the places that the needs name: from a day's telling back to the library's day, its numbers, the loop's head and the start
+abbrev day : tie.After-tell Inv-loop μ-loop → tie.After-one-day Inv-loop μ-loop
+day tell = tell .before .before .before .before .before .before
+
+abbrev date : tie.After-one-day Inv-loop μ-loop → tie.After-day-at Inv-loop μ-loop
+date day = day .before .before .before
+
+abbrev head : tie.After-day-at Inv-loop μ-loop → tie.At-loop Inv-loop μ-loop
+head date = date .before .before
+
+abbrev start : tie.At-loop Inv-loop μ-loop → tie.Start Inv-loop μ-loop
+start head = head .before .before .before .before .before .before .before .before .before .before
+
+sub-count : tie.Need-sub-count Inv-loop μ-loop
+sub-count c = let p = c .before .before .before .before .before .before .before .before .before .pre in omega (arith, p .start, p .numbers)
+
+loop-holds : tie.Need-loop-holds Inv-loop μ-loop
+loop-holds c = (search needs, search needs, search needs, underway-first _ _ _ _ _)
+
+day-at-requires : tie.Need-day-at-requires Inv-loop μ-loop
+day-at-requires c κs = let p = start (c .before) .pre in (p .coded, p .start, omega (arith, p .numbers, p .start, c .loop-test .taken))
+
+one-day-requires : tie.Need-one-day-requires Inv-loop μ-loop
+one-day-requires c κs = start (head (c .before .before)) .pre .few
+
+tell-requires : tie.Need-tell-requires Inv-loop μ-loop
+tell-requires c κs = let at = date (c .before .before .before .before .before) in
+    let u = head at .loop .inv .3 in
+    let p = start (head at) .pre in
+    omega (arith, u .placed, u .long, p .room, p .coded .few, at .before .loop-test .taken)
+
+enum-known-next : tie.Need-enum-known-next Inv-loop μ-loop
+enum-known-next c = search needs
+
+enum-known-next-2 : tie.Need-enum-known-next-2 Inv-loop μ-loop
+enum-known-next-2 c = search needs
+
+same-length : tie.Need-same-length Inv-loop μ-loop
+same-length c = search needs
+
+same-length-2 : tie.Need-same-length-2 Inv-loop μ-loop
+same-length-2 c = search needs
+
+same-length-3 : tie.Need-same-length-3 Inv-loop μ-loop
+same-length-3 c = omega (arith, head (date (day (c .before .before .before .before .before))) .loop .inv .3 .long)
+
+-- the day is one of the run's
+more : (at : tie.After-day-at Inv-loop μ-loop) → head at .loop .k < dayCount (start (head at) .args .numbers .now)
+more at = let s = start (head at) in omega (arith, day-count (s .args .numbers .now) _ (s .pre .start), at .before .loop-test .taken)
+
+returns : tie.Need-returns Inv-loop μ-loop
+returns c = let told = c .before in
+    let tell = told .before .before .before .before in
+    let at = date (day tell) in
+    told-last (start (head at) .args .numbers .now) _ _ _ _ _ _ _ _ _ (start (head at) .pre .coded) (head at .loop .inv .3)
+    (dayIn (at .day-at .result)) (at .day-at .ensures) (more at) _ _ _ _ _ (day tell .one-day .ensures .verdict) (tell .tell .ensures) (told .next2 .given .1)
+
+add-done : tie.Need-add-done Inv-loop μ-loop
+add-done c = let at = date (day (c .before .before .before .before .before .before)) in
+    omega (arith, head at .loop .inv .3 .counted, at .before .loop-test .taken, start (head at) .pre .coded .few)
+
+add-k : tie.Need-add-k Inv-loop μ-loop
+add-k c = let at = date (day (c .before .before .before .before .before .before)) in omega (arith, at .before .loop-test .taken, start (head at) .pre .coded .few)
+
+loop-less : tie.Need-loop-less Inv-loop μ-loop
+loop-less c = search needs
+
+loop-again : tie.Need-loop-again Inv-loop μ-loop
+unfolding cells
+loop-again c = let told = c .before .before in
+    let tell = told .before .before .before .before in
+    let e = day tell .one-day .ensures in
+    let at = date (day tell) in (
+      omega (arith, at .before .loop-test .taken),
+      omega (arith, head at .loop .inv .1, day tell .one-day .kept),
+      omega (arith, head at .loop .inv .2, day tell .one-day .kept),
+      told-more (start (head at) .args .numbers .now) _ _ _ _ _ _ _ _ _ (start (head at) .pre .coded) (head at .loop .inv .3)
+          (dayIn (at .day-at .result)) (at .day-at .ensures) (more at) _ _ _ _ _ _ (start (head at) .pre .cells) (e .verdict) (e .totals) (e .state) (tell .tell .ensures) (told .next .given .1),
+    )
+
+ended-requires : tie.Need-ended-requires Inv-loop μ-loop
+ended-requires c κs = let last = c .before .before in
+    let u = last .loop .inv .3 in
+    let p = start last .pre in
+    omega (arith, u .placed, u .long, p .room, p .coded .few, last .loop .inv .0)
+
+same-length-4 : tie.Need-same-length-4 Inv-loop μ-loop
+same-length-4 c = search needs
+
+same-length-5 : tie.Need-same-length-5 Inv-loop μ-loop
+same-length-5 c = search needs
+
+same-length-6 : tie.Need-same-length-6 Inv-loop μ-loop
+same-length-6 c = search needs
+
+returns-2 : tie.Need-returns-2 Inv-loop μ-loop
+returns-2 c = let ended = c .before .before in
+    let last = ended .before .before .before in
+    let ns = start last .args .numbers .now in
+    let count = day-count ns _ (start last .pre .start) in
+    all-told ns _ _ _ _ _ _ _ _ _ (start last .pre .coded) (last .loop .inv .3) _ _
+    (omega (arith, count, ended .before .before .loop-test .left)) (omega (arith, count, last .loop .inv .0)) (ended .ended .ensures)
+
+pub days-spec : {M : Type 1} → statement M
+days-spec =
+    tie.close
+    (tie.spec
+    Inv-loop
+    μ-loop
+    sub-count
+    loop-holds
+    day-at-requires
+    one-day-requires
+    tell-requires
+    enum-known-next
+    enum-known-next-2
+    same-length
+    same-length-2
+    same-length-3
+    returns
+    add-done
+    add-k
+    loop-less
+    loop-again
+    ended-requires
+    same-length-4
+    same-length-5
+    same-length-6
+    returns-2)

@@ -1,0 +1,183 @@
+// A run's days, each from the numbers to its line.
+ghost use mathlib.Core.Path.{_≡_};
+ghost use Prim.Native.Nat.{_+_, _*_, _≤_};
+ghost use lib.ListN.{length};
+ghost use Rattle.theory.specs.Lists.{made};
+ghost use Rattle.paper.specs.Day.{dayOf};
+ghost use Rattle.records.specs.Calls.{setupOf, stateOf, dayIn, verdictAs};
+ghost use Rattle.recharge.specs.Settle.{totalsIn};
+ghost use Rattle.text.specs.Program.{daysFrom, dayCount, dayAt, noResults, daysText};
+ghost use Rattle.text.specs.Run.{Coded, DaysReady, OneDay, Tells, mostText};
+ghost use Rattle.text.specs.Writing.{Wrote};
+ghost use Rattle.text.specs.Lines.{dayLine};
+use crate::fields::tenths;
+use crate::fields::wide;
+use crate::refusals::Spoken;
+use crate::refusals::said;
+use crate::writing::ended;
+use crate::writing::line;
+use crate::writing::refused;
+use recharge::Answer;
+use recharge::DayRecord;
+use recharge::Depth;
+use recharge::Last;
+use recharge::Memory;
+use recharge::Setup;
+use recharge::TenthF;
+use recharge::Totals;
+
+// The place after what a day printed, and whether the run goes on.
+pub(crate) enum Told {
+    More(usize),
+    Last(usize),
+}
+
+// The numbers of day k.
+fn day_at(numbers: &[u32], from: usize, k: usize) -> DayRecord
+    requires { ⌜ Coded (now numbers) × (from ≡ daysFrom (now numbers)) × (from + 7 * k + 7 ≤ length (now numbers)) ⌝ }
+    ensures { λ r. ⌜ dayIn r ≡ dayAt (now (numbers .entry)) k ⌝ }
+{
+    let at = from + 7 * k;
+    DayRecord {
+        serial: numbers[at],
+        day_of_year: numbers[at + 1],
+        gross: Depth(wide(numbers[at + 2])),
+        minimum: TenthF(tenths(numbers[at + 3])),
+        mean: TenthF(tenths(numbers[at + 4])),
+        maximum: TenthF(tenths(numbers[at + 5])),
+        potential: Depth(wide(numbers[at + 6])),
+    }
+}
+
+// One day of the library. Its results of every cell are not printed, and end here.
+fn one_day(
+    setup: Setup,
+    covers: &[u32],
+    direction: &[u32],
+    cover: &[u32],
+    group: &[u32],
+    water: &[u32],
+    soil: &mut [u32],
+    snow: &mut [u32],
+    memory: Memory,
+    last: Last,
+    day: DayRecord,
+) -> Answer
+    requires { ⌜ length (now direction) ≤ 4096 ⌝ }
+    ensures { λ r. ⌜ OneDay (dayOf (setupOf setup (now (covers .entry)) (now (direction .entry)) (now (cover .entry)) (now (group .entry)) (now (water .entry))) (stateOf (now (soil .entry)) (now (snow .entry)) memory last) (noResults (length (now (direction .entry)))) (dayIn day)) r (now (soil .exit)) (now (snow .exit)) ⌝ }
+{
+    let n = direction.len();
+    let mut intercepted = [0u32; 4096];
+    let mut outflow = [0u32; 4096];
+    let mut evapotranspired = [0u32; 4096];
+    let mut recharged = [0u32; 4096];
+    let mut rejected = [0u32; 4096];
+    recharge::day(
+        setup,
+        covers,
+        direction,
+        cover,
+        group,
+        water,
+        soil,
+        snow,
+        &mut intercepted[..n],
+        &mut outflow[..n],
+        &mut evapotranspired[..n],
+        &mut recharged[..n],
+        &mut rejected[..n],
+        memory,
+        last,
+        day,
+    )
+}
+
+fn day_line(output: &mut [u8], at: usize, serial: u32, totals: Totals) -> usize
+    requires { ⌜ at + 168 ≤ length (now output) ⌝ }
+    ensures { λ r. ⌜ Wrote 168 at (dayLine serial (totalsIn totals)) (now (output .entry)) (now (output .exit)) r ⌝ }
+{
+    let gross = totals.gross.0;
+    let intercepted = totals.intercepted.0;
+    let evapotranspired = totals.evapotranspired.0;
+    let recharged = totals.recharged.0;
+    let rejected = totals.rejected.0;
+    let gone = totals.gone.0;
+    let stored = totals.stored.0;
+    line(
+        output,
+        at,
+        wide(serial),
+        gross,
+        intercepted,
+        evapotranspired,
+        recharged,
+        rejected,
+        gone,
+        stored,
+    )
+}
+
+// A day's line, or its refusal.
+fn tell(output: &mut [u8], at: usize, serial: u32, answer: Answer) -> Told
+    requires { ⌜ at + 168 ≤ length (now output) ⌝ }
+    ensures { λ r. ⌜ Tells at serial (totalsIn (answer .totals)) (verdictAs (answer .outcome)) (now (output .entry)) (now (output .exit)) r ⌝ }
+{
+    let outcome = answer.outcome;
+    let totals = answer.totals;
+    match said(outcome) {
+        Spoken::Accepted => Told::More(day_line(output, at, serial, totals)),
+        Spoken::Refused(number, place) => Told::Last(refused(output, at, number, place)),
+    }
+}
+
+// The days from a state on, up to the first that is refused, and the last line.
+pub(crate) fn days(
+    numbers: &[u32],
+    from: usize,
+    setup: Setup,
+    covers: &[u32],
+    direction: &[u32],
+    cover: &[u32],
+    group: &[u32],
+    water: &[u32],
+    soil: &mut [u32],
+    snow: &mut [u32],
+    memory: Memory,
+    last: Last,
+    output: &mut [u8],
+) -> usize
+    requires { ⌜ DaysReady (now numbers) from setup (now direction) (now output) ⌝ }
+    ensures { λ r. ⌜ Wrote mostText 0 (daysText (setupOf setup (now (covers .entry)) (now (direction .entry)) (now (cover .entry)) (now (group .entry)) (now (water .entry))) (stateOf (now (soil .entry)) (now (snow .entry)) memory last) (noResults (length (now (direction .entry)))) 0 (made (dayCount (now (numbers .entry))) (dayAt (now (numbers .entry))))) (now (output .entry)) (now (output .exit)) r ⌝ }
+{
+    let count = (numbers.len() - from) / 7;
+    let mut memory = memory;
+    let mut last = last;
+    let mut at = 0;
+    let mut done: u64 = 0;
+    let mut k = 0;
+    while k < count {
+        let day = day_at(numbers, from, k);
+        let answer = one_day(
+            setup,
+            covers,
+            direction,
+            cover,
+            group,
+            water,
+            soil,
+            snow,
+            memory,
+            last,
+            day,
+        );
+        match tell(output, at, day.serial, answer) {
+            Told::More(next) => at = next,
+            Told::Last(next) => return next,
+        }
+        memory = answer.memory;
+        last = answer.last;
+        done += 1;
+        k += 1;
+    }
+    ended(output, at, done)
+}
