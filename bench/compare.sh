@@ -1,11 +1,14 @@
 #!/bin/sh
-# Builds plain and fast, checks the figures and the worked example, and compares the
-# implementations on random cases.
+# Compares the proved library with document 01 written again in C, plain and fast.
 #
 #     ./compare.sh [CASES [TEXTS [SEED]]]
 #
-# To compare a third implementation of balance.h with the prefix proved_ as well:
-#     THIRD=proved THIRD_TEXT=proved THIRD_OBJECTS="path/proved.o ..." ./compare.sh
+# Builds all of them for this machine, checks the paper's figures and the worked example, and runs the implementations side by
+# side on random and damaged cases: every returned number, store, result cell, total, memory and serial. A difference prints its
+# seed and fails. It proves the library first where it is not proved yet, which takes minutes; the rest takes seconds.
+#
+# PROVED=no leaves the proved library out. Another implementation of balance.h, with the prefix other_, stands in for it by
+#     THIRD=other THIRD_TEXT=other THIRD_OBJECTS="path/other.o ..." ./compare.sh
 # (THIRD and THIRD_TEXT are independent of each other.) Everything built goes to build/.
 set -eu
 cd "$(dirname "$0")"
@@ -13,6 +16,14 @@ mkdir -p build
 
 CC=${CC:-cc}
 WARN="-std=c11 -Wall -Wextra -Wconversion -Wshadow"
+if [ "${PROVED:-yes}" = yes ] && [ -z "${THIRD:-}" ]; then
+    ./native.sh clib build/libclib.a
+    THIRD=recharge THIRD_OBJECTS=build/libclib.a
+    # the text, once the library has it
+    if grep -q 'fn recharge_text(' ../crates/clib/src/*.rt; then THIRD_TEXT=recharge; fi
+    # the header for C says the same as balance.h
+    $CC $WARN -fsyntax-only same_header.c
+fi
 DEFINE="${THIRD:+-DTHIRD=$THIRD} ${THIRD_TEXT:+-DTHIRD_TEXT=$THIRD_TEXT}"
 OBJECTS=${THIRD_OBJECTS:-}
 
@@ -53,3 +64,15 @@ $CC $WARN -O1 -g -fsanitize=address,undefined -fno-sanitize-recover=all fuzz.c c
 build/fuzz_checked 2000 2000 900000001 | tail -n 1
 
 build/fuzz "${1:-50000}" "${2:-50000}" "${3:-1}"
+
+# On another processor the library was compiled again for it. There the archive that is shipped, for x86-64, is compared as
+# well, under an emulator and on fewer cases, where the machine has the tools.
+if [ "$(uname -m)" != x86_64 ] && [ "${THIRD:-}" = recharge ]; then
+    if command -v x86_64-linux-gnu-gcc >/dev/null && command -v qemu-x86_64 >/dev/null; then
+        x86_64-linux-gnu-gcc -std=c11 -O2 -static -DTHIRD=recharge fuzz.c cases.c table.c plain.c plain_text.c fast.c \
+            fast_text.c ../target/staticlib/libclib.a -o build/fuzz_shipped
+        qemu-x86_64 build/fuzz_shipped 1000 0 700000001
+    else
+        echo 'the shipped archive was not compared here: that takes x86_64-linux-gnu-gcc and qemu-x86_64'
+    fi
+fi

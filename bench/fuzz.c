@@ -548,6 +548,20 @@ static void report(uint64_t cases, uint64_t text_cases, uint64_t seed, double ca
     printf("no difference\n");
 }
 
+/* A comparison says little of a refusal that it hardly reached. A text reaches neither 2 nor 9: it lends every slice at its
+ * length, and starts fresh. */
+static void reached_often(const char *call, const uint64_t *counts, int last, uint64_t cases)
+{
+    for (int i = 1; i <= last && cases >= 1000; i++) {
+        if (counts == tally.text && (i == 2 || i == 9))
+            continue;
+        if (counts[i] * 250 < cases) {
+            printf("TOO FEW: %s reached refusal %d only %" PRIu64 " times\n", call, i, counts[i]);
+            exit(1);
+        }
+    }
+}
+
 static uint64_t argument(int argc, char **argv, int i, uint64_t otherwise)
 {
     return i < argc ? strtoull(argv[i], NULL, 10) : otherwise;
@@ -576,6 +590,10 @@ int main(int argc, char **argv)
         for (uint64_t i = 0; i < text_cases; i++)
             run_text(seed + i);
         report(cases, text_cases, seed, middle - start, seconds() - middle);
+        reached_often("check", tally.check, 6, cases);
+        reached_often("fresh", tally.fresh, 6, cases);
+        reached_often("day", tally.day, 10, cases);
+        reached_often("text", tally.text, 11, text_cases);
     }
     return 0;
 }

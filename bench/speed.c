@@ -1,0 +1,332 @@
+/* How long one day takes: the proved library against fast.c, in one process.
+ *
+ *     speed [ROUNDS]
+ *
+ * Both work through the same days from the same state, a short run each, turn and turn about in
+ * many rounds; after each round every number of the two must be the same. Printed for each grid:
+ * the least time of a day of each, the ratio of the least times, and the median of the rounds'
+ * ratios. A barrier in each repetition keeps the compiler from moving work out of the loop.
+ * Compiled with -DTHIRD=prefix, as table.c is; with -DTHIRD_TEXT=prefix the heaviest texts too. */
+#include "balance.h"
+#include "text.h"
+
+#include <inttypes.h>
+#include <stdio.h>
+#include <stdlib.h>
+#include <string.h>
+#include <time.h>
+
+#define JOIN_(a, b) a##b
+#define JOIN(a, b) JOIN_(a, b)
+
+balance_fresh JOIN(THIRD, _fresh);
+balance_day JOIN(THIRD, _day);
+#ifdef THIRD_TEXT
+balance_text JOIN(THIRD_TEXT, _text);
+#endif
+
+enum { DAYS = 16, MOST_ROUNDS = 2000, COVERS = 12, FAST = 0, PROVED = 1 };
+
+static double microseconds(void)
+{
+    struct timespec now;
+
+    clock_gettime(CLOCK_MONOTONIC, &now);
+    return (double)now.tv_sec * 1e6 + (double)now.tv_nsec / 1e3;
+}
+
+static void barrier(void)
+{
+    __asm__ volatile("" ::: "memory");
+}
+
+/* ---------------------------------------------------------------- grids */
+
+static uint32_t width, height, cells;
+static uint32_t covers[COVERS * BALANCE_ENTRY];
+static uint32_t direction[BALANCE_MAX_CELLS], cover[BALANCE_MAX_CELLS], group[BALANCE_MAX_CELLS],
+    water[BALANCE_MAX_CELLS];
+static uint32_t rank[BALANCE_MAX_CELLS];
+
+static uint32_t scramble(uint32_t x)
+{
+    x ^= x >> 16;
+    x *= 0x7feb352du;
+    x ^= x >> 15;
+    x *= 0x846ca68bu;
+    return x ^ x >> 16;
+}
+
+/* Entry 0 is open water; the others go from woods to towns. */
+static void make_covers(void)
+{
+    for (uint32_t e = 0; e < COVERS; e++) {
+        uint32_t *entry = covers + e * BALANCE_ENTRY;
+        entry[0] = 3 + 20 * e;
+        entry[1] = e == 0;
+        for (uint32_t g = 0; g < 4; g++) {
+            entry[2 + g] = 30 + 5 * e + 4 * g;
+            entry[6 + g] = 12000 - 2500 * g;
+            entry[12 + g] = e == COVERS - 1 ? 0 : 400 - 25 * e - 20 * g;
+        }
+        entry[10] = 900 - 50 * e;
+        entry[11] = 400 - 20 * e;
+    }
+}
+
+static void plain_cells(uint32_t w, uint32_t h)
+{
+    width = w;
+    height = h;
+    cells = w * h;
+    for (uint32_t i = 0; i < cells; i++) {
+        direction[i] = 0;
+        cover[i] = 3 + 20 * 6;
+        group[i] = 2;
+        water[i] = 200;
+    }
+}
+
+static void make_closed(uint32_t w, uint32_t h)
+{
+    plain_cells(w, h);
+}
+
+/* Each row runs to the right and over the edge. */
+static void make_rows(uint32_t w, uint32_t h)
+{
+    plain_cells(w, h);
+    for (uint32_t i = 0; i < cells; i++)
+        direction[i] = 1;
+}
+
+/* One stream through every cell. */
+static void make_serpentine(uint32_t w, uint32_t h)
+{
+    plain_cells(w, h);
+    for (uint32_t i = 0; i < cells; i++) {
+        uint32_t row = i / w, column = i % w;
+        int right = row % 2 == 0;
+        int turns = right ? column + 1 == w : column == 0;
+        direction[i] = turns ? 4 : right ? 1 : 16;
+    }
+}
+
+/* Each cell drains to its lowest neighbour; a tenth is lake; covers, groups and water vary. */
+static void make_landscape(uint32_t w, uint32_t h)
+{
+    static const int step[8][2] = {{1, 0}, {1, 1}, {0, 1}, {-1, 1}, {-1, 0}, {-1, -1}, {0, -1}, {1, -1}};
+
+    plain_cells(w, h);
+    for (uint32_t i = 0; i < cells; i++)
+        rank[i] = (scramble(i) % 64 + 40 * (i / w) + 10 * (i % w)) * BALANCE_MAX_CELLS + i;
+    for (uint32_t i = 0; i < cells; i++) {
+        uint32_t lowest = rank[i], kind = scramble(i + 77777);
+        for (int d = 0; d < 8; d++) {
+            int x = (int)(i % w) + step[d][0], y = (int)(i / w) + step[d][1];
+            if (x < 0 || y < 0 || x >= (int)w || y >= (int)h)
+                continue;
+            uint32_t there = rank[(uint32_t)y * w + (uint32_t)x];
+            if (there < lowest) {
+                lowest = there;
+                direction[i] = 1u << d;
+            }
+        }
+        cover[i] = kind % 10 == 0 ? 3 : 3 + 20 * (1 + kind / 16 % (COVERS - 1));
+        group[i] = 1 + kind / 1024 % 4;
+        water[i] = 100 + kind / 8192 % 200;
+    }
+}
+
+/* ---------------------------------------------------------------- days */
+
+struct day {
+    uint32_t day_of_year, gross;
+    int32_t minimum, mean, maximum;
+    uint32_t potential;
+};
+
+/* Rain, drought, frost with snow, thaw: every rule has its turn. */
+static const struct day days[DAYS] = {
+    {100, 0, 500, 600, 700, 900},      {101, 12000, 480, 560, 640, 700},
+    {102, 30000, 500, 560, 620, 500},  {103, 2500, 500, 600, 700, 1100},
+    {104, 0, 520, 640, 760, 2000},     {105, 0, 560, 680, 800, 2400},
+    {106, 0, 560, 700, 840, 2600},     {300, 8000, 200, 260, 300, 200},
+    {301, 15000, 180, 250, 310, 100},  {302, 0, 250, 320, 390, 300},
+    {303, 6000, 350, 420, 500, 400},   {150, 45000, 600, 680, 760, 1200},
+    {151, 100, 600, 700, 800, 2200},   {152, 0, 620, 740, 860, 2800},
+    {153, 0, 640, 760, 880, 3000},     {154, 20000, 600, 680, 760, 1500},
+};
+
+struct world {
+    uint32_t soil[BALANCE_MAX_CELLS], snow[BALANCE_MAX_CELLS];
+    uint32_t memory[BALANCE_MEMORY], last_serial[1];
+    uint32_t results[5][BALANCE_MAX_CELLS];
+    uint64_t totals[BALANCE_TOTALS], returned;
+};
+
+static struct world start, worlds[2];
+
+#define SETUP                                                                                  \
+    width, height, 90, 280, covers, sizeof covers / sizeof covers[0], direction, cells, cover, \
+        cells, group, cells, water, cells
+#define STATE(w)                                                                    \
+    (w)->soil, cells, (w)->snow, cells, (w)->memory, BALANCE_MEMORY, (w)->last_serial, 1
+
+/* The days one after another, `repeats` times from the same state; the time of one day. */
+static double run(int which, uint32_t repeats)
+{
+    balance_day *const call = which == FAST ? fast_day : JOIN(THIRD, _day);
+    struct world *const w = &worlds[which];
+    double spent = 0;
+
+    for (uint32_t k = 0; k < repeats; k++) {
+        memcpy(w->soil, start.soil, cells * sizeof w->soil[0]);
+        memcpy(w->snow, start.snow, cells * sizeof w->snow[0]);
+        memcpy(w->memory, start.memory, sizeof w->memory);
+        w->last_serial[0] = BALANCE_NO_SERIAL;
+        w->returned = 0;
+        double before = microseconds();
+        for (uint32_t n = 0; n < DAYS; n++) {
+            const struct day *d = &days[n];
+            w->returned |= call(SETUP, STATE(w), w->results[0], cells, w->results[1], cells,
+                                w->results[2], cells, w->results[3], cells, w->results[4], cells,
+                                w->totals, BALANCE_TOTALS, n + 1, d->day_of_year, d->gross,
+                                d->minimum, d->mean, d->maximum, d->potential);
+            barrier();
+        }
+        spent += microseconds() - before;
+    }
+    return spent / (double)(repeats * DAYS);
+}
+
+static void same_worlds(const char *name)
+{
+    if (memcmp(&worlds[FAST], &worlds[PROVED], sizeof worlds[0]) != 0 || worlds[FAST].returned != 0) {
+        printf("%s, %" PRIu32 " cells: the results differ, or a day was refused\n", name, cells);
+        exit(1);
+    }
+}
+
+static int by_size(const void *a, const void *b)
+{
+    double x = *(const double *)a, y = *(const double *)b;
+
+    return (x > y) - (x < y);
+}
+
+/* Turn and turn about; who begins changes from round to round. */
+static void measure(const char *name, int rounds)
+{
+    static double ratios[MOST_ROUNDS];
+    double least[2] = {1e30, 1e30};
+    uint32_t repeats = 1 + 2048 / cells;
+
+    memset(worlds, 0, sizeof worlds);
+    if (fast_fresh(SETUP, STATE(&start)) != 0 || JOIN(THIRD, _fresh)(SETUP, STATE(&start)) != 0)
+        printf("%s: the setup is refused\n", name);
+    for (int n = -2; n < rounds; n++) { /* two rounds to warm up */
+        double spent[2];
+        for (int turn = 0; turn < 2; turn++) {
+            int which = (n + turn) & 1;
+            spent[which] = run(which, repeats);
+        }
+        same_worlds(name);
+        if (n < 0)
+            continue;
+        ratios[n] = spent[PROVED] / spent[FAST];
+        for (int which = 0; which < 2; which++)
+            least[which] = spent[which] < least[which] ? spent[which] : least[which];
+    }
+    qsort(ratios, (size_t)rounds, sizeof ratios[0], by_size);
+    printf("%-22s %6" PRIu32 " %12.2f %12.2f %8.2f %8.2f\n", name, cells, least[FAST], least[PROVED],
+           least[PROVED] / least[FAST], ratios[rounds / 2]);
+}
+
+/* ---------------------------------------------------------------- texts */
+
+#ifdef THIRD_TEXT
+static unsigned char text[TEXT_LONGEST + 100];
+static unsigned char text_out[2][TEXT_ROOM];
+static size_t text_length;
+
+/* A text of w x h cells of one stream, and as many days as the 65,536 bytes hold. */
+static void make_heavy(uint32_t w, uint32_t h)
+{
+    char *at = (char *)text, line[100];
+
+    at += sprintf(at, "%" PRIu32 " %" PRIu32 " 90 280\n1\n3 0 75 75 75 75 6000 6000 6000 6000 900 0 250 250 250 250\n", w, h);
+    make_serpentine(w, h);
+    for (uint32_t i = 0; i < cells; i++)
+        at += sprintf(at, "%" PRIu32 " 3 2 9\n", direction[i]);
+    for (uint32_t n = 1;; n++) {
+        const struct day *d = &days[n % DAYS];
+        int more = sprintf(line, "%" PRIu32 " %" PRIu32 " %" PRIu32 " %d %d %d %" PRIu32 "\n", n,
+                           d->day_of_year, d->gross, d->minimum, d->mean, d->maximum, d->potential);
+        if (at + more > (char *)text + TEXT_LONGEST)
+            break;
+        memcpy(at, line, (size_t)more);
+        at += more;
+    }
+    text_length = (size_t)(at - (char *)text);
+}
+
+static void measure_text(const char *name, int rounds)
+{
+    static double ratios[MOST_ROUNDS];
+    balance_text *const calls[2] = {fast_text, JOIN(THIRD_TEXT, _text)};
+    double least[2] = {1e30, 1e30};
+    size_t used[2] = {0, 0};
+
+    for (int n = 0; n < rounds; n++) {
+        double spent[2];
+        for (int turn = 0; turn < 2; turn++) {
+            int which = (n + turn) & 1;
+            double before = microseconds();
+            used[which] = calls[which](text, text_length, text_out[which], TEXT_ROOM);
+            barrier();
+            spent[which] = microseconds() - before;
+            least[which] = spent[which] < least[which] ? spent[which] : least[which];
+        }
+        if (used[0] != used[1] || memcmp(text_out[0], text_out[1], used[0]) != 0) {
+            printf("%s: the texts differ\n", name);
+            exit(1);
+        }
+        ratios[n] = spent[PROVED] / spent[FAST];
+    }
+    qsort(ratios, (size_t)rounds, sizeof ratios[0], by_size);
+    printf("%-22s %6" PRIu32 " %12.2f %12.2f %8.2f %8.2f\n", name, cells, least[FAST], least[PROVED],
+           least[PROVED] / least[FAST], ratios[rounds / 2]);
+}
+#endif
+
+int main(int argc, char **argv)
+{
+    static const uint32_t sizes[5][2] = {{2, 1}, {8, 8}, {16, 16}, {32, 32}, {64, 64}};
+    int rounds = argc > 1 ? atoi(argv[1]) : 200;
+
+    if (rounds < 1 || rounds > MOST_ROUNDS)
+        return 2;
+    make_covers();
+    printf("%-22s %6s %12s %12s %8s %8s\n", "one day, in us", "cells", "fast C", "proved", "least", "median");
+    make_closed(64, 64);
+    measure("closed cells", rounds);
+    make_rows(64, 64);
+    measure("rows", rounds);
+    make_serpentine(64, 64);
+    measure("serpentine", rounds);
+    for (int k = 4; k >= 0; k--) {
+        make_landscape(sizes[k][0], sizes[k][1]);
+        measure("landscape with lakes", rounds);
+    }
+#ifdef THIRD_TEXT
+    printf("%-22s %6s %12s %12s %8s %8s\n", "a whole text, in us", "cells", "fast C", "proved", "least", "median");
+    make_heavy(64, 64);
+    measure_text("large grid", rounds / 10 + 1);
+    make_heavy(16, 16);
+    measure_text("middling grid", rounds / 10 + 1);
+    make_heavy(1, 1);
+    measure_text("one cell, most days", rounds / 10 + 1);
+#endif
+    return 0;
+}

@@ -1,0 +1,61 @@
+-- What C hands over and gets as the paper's verdict, memory, last serial and totals.
+use mathlib.Core.Bool.{cond}
+use mathlib.Core.List.{List, [], _∷_}
+use Prim.Native.Nat.{ℕ, _+_, _*_}
+use lib.Dec.{eqb}
+use lib.ListN.{getD}
+use Rattle.paper.specs.State.{Memory, Last, none, serial}
+use Rattle.paper.specs.Refusals.{Verdict, accepted, refused, numberOf, placeOf}
+use Rattle.paper.specs.Day.{Totals}
+
+unfoldable pub numberIn : Verdict → ℕ
+numberIn accepted = 0
+numberIn (refused why) = numberOf why
+
+unfoldable pub placeIn : Verdict → ℕ
+placeIn accepted = 0
+placeIn (refused why) = placeOf why
+
+-- 0 where a call accepts, else number × 2^32 + place
+unfoldable pub returned : Verdict → ℕ
+returned v = numberIn v * 4294967296 + placeIn v
+
+-- five figures, oldest first
+unfoldable pub memoryFrom : List ℕ → Memory
+memoryFrom l =
+    record {
+      oldest = getD l 0 0;
+      fourth = getD l 1 0;
+      third = getD l 2 0;
+      second = getD l 3 0;
+      yesterday = getD l 4 0;
+    }
+
+unfoldable pub memoryList : Memory → List ℕ
+memoryList m = m .oldest ∷ m .fourth ∷ m .third ∷ m .second ∷ m .yesterday ∷ []
+
+-- the largest number of 32 bits, which is no serial, stands for none
+abbrev pub noSerial : ℕ
+noSerial = 4294967295
+
+unfoldable pub lastFrom : List ℕ → Last
+lastFrom l = cond (eqb (getD l 0 0) noSerial) none (serial (getD l 0 0))
+
+unfoldable pub lastNumber : Last → ℕ
+lastNumber none = noSerial
+lastNumber (serial n) = n
+
+unfoldable pub lastList : Last → List ℕ
+lastList last = lastNumber last ∷ []
+
+-- in the paper's order
+unfoldable pub totalsList : Totals → List ℕ
+totalsList t =
+    t .gross
+    ∷ t .intercepted
+    ∷ t .evapotranspired
+    ∷ t .recharged
+    ∷ t .rejected
+    ∷ t .gone
+    ∷ t .stored
+    ∷ []

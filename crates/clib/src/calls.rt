@@ -1,0 +1,161 @@
+// The three calls for C. A slice of a fixed length is tested before all else: with another length, 2 at 0 comes back and nothing is written.
+ghost use mathlib.Core.Path.{_≡_};
+ghost use Rattle.paper.specs.Day.{checkOf};
+ghost use Rattle.clib.specs.Numbers.{returned};
+ghost use Rattle.clib.specs.Handed.{setupFrom, dayFrom, storesFrom, resultsFrom, begun, freshFrom, handed, dayGives};
+use crate::numbers::returned_as;
+use crate::state::day_from;
+use crate::state::keep_last;
+use crate::state::keep_memory;
+use crate::state::last_from;
+use crate::state::memory_from;
+use crate::state::write_totals;
+use recharge::Setup;
+
+// Refusal 2 at 0.
+const LENT: u64 = 8589934592;
+
+#[no_mangle]
+pub extern "C" fn recharge_check(
+    width: u32,
+    height: u32,
+    first: u32,
+    last: u32,
+    covers: &[u32],
+    direction: &[u32],
+    cover: &[u32],
+    group: &[u32],
+    water: &[u32],
+) -> u64
+    ensures { λ r. ⌜ r ≡ returned (checkOf (setupFrom width height first last (now (covers .entry)) (now (direction .entry)) (now (cover .entry)) (now (group .entry)) (now (water .entry)))) ⌝ }
+{
+    let setup = Setup {
+        width,
+        height,
+        first,
+        last,
+    };
+    returned_as(recharge::check(setup, covers, direction, cover, group, water))
+}
+
+#[no_mangle]
+pub extern "C" fn recharge_fresh(
+    width: u32,
+    height: u32,
+    first: u32,
+    last: u32,
+    covers: &[u32],
+    direction: &[u32],
+    cover: &[u32],
+    group: &[u32],
+    water: &[u32],
+    soil: &mut [u32],
+    snow: &mut [u32],
+    memory: &mut [u32],
+    last_serial: &mut [u32],
+) -> u64
+    ensures { λ r. ⌜ begun r (now (soil .exit)) (now (snow .exit)) (now (memory .exit)) (now («last_serial» .exit)) ≡ freshFrom (setupFrom width height first last (now (covers .entry)) (now (direction .entry)) (now (cover .entry)) (now (group .entry)) (now (water .entry))) (storesFrom (now (soil .entry)) (now (snow .entry)) (now (memory .entry)) (now («last_serial» .entry))) ⌝ }
+{
+    if memory.len() != 5 {
+        return LENT;
+    }
+    if last_serial.len() != 1 {
+        return LENT;
+    }
+    let setup = Setup {
+        width,
+        height,
+        first,
+        last,
+    };
+    let start = recharge::fresh(setup, covers, direction, cover, group, water, soil, snow);
+    let kept = start.memory;
+    let serial = start.last;
+    keep_memory(kept, memory);
+    keep_last(serial, last_serial);
+    let outcome = start.outcome;
+    returned_as(outcome)
+}
+
+#[no_mangle]
+pub extern "C" fn recharge_day(
+    width: u32,
+    height: u32,
+    first: u32,
+    last: u32,
+    covers: &[u32],
+    direction: &[u32],
+    cover: &[u32],
+    group: &[u32],
+    water: &[u32],
+    soil: &mut [u32],
+    snow: &mut [u32],
+    memory: &mut [u32],
+    last_serial: &mut [u32],
+    intercepted: &mut [u32],
+    outflow: &mut [u32],
+    evapotranspired: &mut [u32],
+    recharged: &mut [u32],
+    rejected: &mut [u32],
+    totals: &mut [u64],
+    serial: u32,
+    day_of_year: u32,
+    gross: u32,
+    minimum: i32,
+    mean: i32,
+    maximum: i32,
+    potential: u32,
+) -> u64
+    ensures { λ r. ⌜ handed r (storesFrom (now (soil .exit)) (now (snow .exit)) (now (memory .exit)) (now («last_serial» .exit))) (resultsFrom (now (intercepted .exit)) (now (outflow .exit)) (now (evapotranspired .exit)) (now (recharged .exit)) (now (rejected .exit))) (now (totals .exit)) ≡ dayGives (setupFrom width height first last (now (covers .entry)) (now (direction .entry)) (now (cover .entry)) (now (group .entry)) (now (water .entry))) (storesFrom (now (soil .entry)) (now (snow .entry)) (now (memory .entry)) (now («last_serial» .entry))) (resultsFrom (now (intercepted .entry)) (now (outflow .entry)) (now (evapotranspired .entry)) (now (recharged .entry)) (now (rejected .entry))) (now (totals .entry)) (dayFrom serial «day_of_year» gross minimum mean maximum potential) ⌝ }
+{
+    if memory.len() != 5 {
+        return LENT;
+    }
+    if last_serial.len() != 1 {
+        return LENT;
+    }
+    if totals.len() != 7 {
+        return LENT;
+    }
+    let setup = Setup {
+        width,
+        height,
+        first,
+        last,
+    };
+    let day = day_from(
+        serial,
+        day_of_year,
+        gross,
+        minimum,
+        mean,
+        maximum,
+        potential,
+    );
+    let answer = recharge::day(
+        setup,
+        covers,
+        direction,
+        cover,
+        group,
+        water,
+        soil,
+        snow,
+        intercepted,
+        outflow,
+        evapotranspired,
+        recharged,
+        rejected,
+        memory_from(memory),
+        last_from(last_serial),
+        day,
+    );
+    let kept = answer.memory;
+    let seen = answer.last;
+    let sums = answer.totals;
+    let outcome = answer.outcome;
+    keep_memory(kept, memory);
+    keep_last(seen, last_serial);
+    write_totals(sums, totals);
+    returned_as(outcome)
+}

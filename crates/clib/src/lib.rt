@@ -1,0 +1,8 @@
+// The library for C: the three calls over plain numbers and slices, each slice a pointer and a length. include/recharge.h says them to C.
+mod calls;
+mod numbers;
+mod state;
+
+pub use calls::recharge_check;
+pub use calls::recharge_day;
+pub use calls::recharge_fresh;

@@ -1,0 +1,123 @@
+// The memory, the last serial, the day record and the totals as plain numbers.
+ghost use mathlib.Core.Path.{_≡_};
+ghost use Prim.Native.Nat.{_<_};
+ghost use lib.ListN.{length};
+ghost use Rattle.records.specs.Calls.{lastOf, dayIn};
+ghost use Rattle.records.specs.Quantities.{memoryOf};
+ghost use Rattle.recharge.specs.Settle.{totalsIn};
+ghost use Rattle.clib.specs.Numbers.{memoryFrom, memoryList, lastFrom, lastList, lastNumber, totalsList};
+ghost use Rattle.clib.specs.Handed.{dayFrom};
+ghost use Rattle.clib.specs.Narrow.{narrow, Narrow};
+use recharge::DayRecord;
+use recharge::Depth;
+use recharge::Last;
+use recharge::Memory;
+use recharge::TenthF;
+use recharge::Totals;
+
+// The last serial of a state that has seen no day.
+const NO_SERIAL: u32 = 4294967295;
+
+fn depth(figure: u32) -> Depth
+    ensures { λ r. ⌜ (r .0 ≡ figure) × (r .0 < narrow) ⌝ }
+{
+    Depth(figure as u64)
+}
+
+pub(crate) fn memory_from(memory: &[u32]) -> Memory
+    requires { ⌜ length (now memory) ≡ 5 ⌝ }
+    ensures { λ r. ⌜ (memoryOf r ≡ memoryFrom (now (memory .entry))) × Narrow (memoryOf r) ⌝ }
+{
+    Memory {
+        oldest: depth(memory[0]),
+        fourth: depth(memory[1]),
+        third: depth(memory[2]),
+        second: depth(memory[3]),
+        yesterday: depth(memory[4]),
+    }
+}
+
+pub(crate) fn last_from(last: &[u32]) -> Last
+    requires { ⌜ length (now last) ≡ 1 ⌝ }
+    ensures { λ r. ⌜ lastOf r ≡ lastFrom (now (last .entry)) ⌝ }
+{
+    let serial = last[0];
+    if serial == NO_SERIAL {
+        return Last::Never;
+    }
+    Last::Serial(serial)
+}
+
+pub(crate) fn day_from(
+    serial: u32,
+    day_of_year: u32,
+    gross: u32,
+    minimum: i32,
+    mean: i32,
+    maximum: i32,
+    potential: u32,
+) -> DayRecord
+    ensures { λ r. ⌜ (dayIn r ≡ dayFrom serial «day_of_year» gross minimum mean maximum potential) × (r .gross .0 < narrow) ⌝ }
+{
+    DayRecord {
+        serial,
+        day_of_year,
+        gross: depth(gross),
+        minimum: TenthF(minimum),
+        mean: TenthF(mean),
+        maximum: TenthF(maximum),
+        potential: depth(potential),
+    }
+}
+
+pub(crate) fn keep_memory(kept: Memory, memory: &mut [u32])
+    requires { ⌜ Narrow (memoryOf kept) × (length (now memory) ≡ 5) ⌝ }
+    ensures { λ r. ⌜ now (memory .exit) ≡ memoryList (memoryOf kept) ⌝ }
+{
+    let oldest = kept.oldest.0;
+    let fourth = kept.fourth.0;
+    let third = kept.third.0;
+    let second = kept.second.0;
+    let yesterday = kept.yesterday.0;
+    memory[0] = oldest as u32;
+    memory[1] = fourth as u32;
+    memory[2] = third as u32;
+    memory[3] = second as u32;
+    memory[4] = yesterday as u32;
+}
+
+fn serial_of(last: Last) -> u32
+    ensures { λ r. ⌜ r ≡ lastNumber (lastOf last) ⌝ }
+{
+    match last {
+        Last::Never => NO_SERIAL,
+        Last::Serial(serial) => serial,
+    }
+}
+
+pub(crate) fn keep_last(kept: Last, last: &mut [u32])
+    requires { ⌜ length (now last) ≡ 1 ⌝ }
+    ensures { λ r. ⌜ now (last .exit) ≡ lastList (lastOf kept) ⌝ }
+{
+    last[0] = serial_of(kept);
+}
+
+pub(crate) fn write_totals(sums: Totals, totals: &mut [u64])
+    requires { ⌜ length (now totals) ≡ 7 ⌝ }
+    ensures { λ r. ⌜ now (totals .exit) ≡ totalsList (totalsIn sums) ⌝ }
+{
+    let gross = sums.gross.0;
+    let intercepted = sums.intercepted.0;
+    let evapotranspired = sums.evapotranspired.0;
+    let recharged = sums.recharged.0;
+    let rejected = sums.rejected.0;
+    let gone = sums.gone.0;
+    let stored = sums.stored.0;
+    totals[0] = gross;
+    totals[1] = intercepted;
+    totals[2] = evapotranspired;
+    totals[3] = recharged;
+    totals[4] = rejected;
+    totals[5] = gone;
+    totals[6] = stored;
+}
