@@ -152,6 +152,10 @@ static void cut_off(void)
     cut(example, 3, "refused 11 at 3", "half a season");
     cut(example, 4, "refused 11 at 4", "a missing cover count");
     cut(example, 5, "refused 11 at 5", "no cover entry");
+    put("2 1 120 270 0\n");
+    vector("five numbers, the last 0", "refused 3 at 0", "the count is there, so its own test speaks");
+    put("2 1 120 270 65\n");
+    vector("five numbers, the last 65", "refused 3 at 0", "the count is there, so its own test speaks");
     cut(example, 6, "refused 11 at 6", "inside a cover entry");
     cut(example, 20, "refused 11 at 20", "one short of a cover entry");
     cut(stream, 21, "refused 11 at 21", "one entry of three");
@@ -287,6 +291,7 @@ static const struct replaced stream_limits[] = {
     {47, "10000", "end 3", "growing interception 10,000", "the most"},
     {47, "10001", "refused 3 at 2", "growing interception 10,001", "past the most"},
     {16, "10001", "refused 3 at 0", "dormant interception 10,001", "past the most"},
+    {48, "10000", "end 3", "dormant interception 10,000", "the most"},
     {17, "1000", "end 3", "root depth 1,000", "the most"},
     {36, "1001", "refused 3 at 1", "root depth 1,001 of open water", "also where no rule reads it"},
     {54, "4", "refused 4 at 0", "cover 4", "not in the table"},

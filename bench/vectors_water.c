@@ -278,13 +278,27 @@ static void conditions(void)
     vector("a storm is forgotten after five days", "end 8", "III on days 2 to 6, then as the sum has it; today is not counted");
 }
 
+/* All 71 curve numbers at once, each on a cell of its own that drains over the edge, in every condition. */
+static void curve_numbers(void)
+{
+    put("1 71 120 270\n18\n");
+    for (int i = 0; i < 18; i++) {
+        int n = 30 + 4 * i, last = i == 17 ? 100 : n + 3;
+        put("%d 0 %d %d %d %d 0 0 0 0 0 0 0 0 0 0\n", i + 1, n, n + 1, n + 2, last);
+    }
+    for (int i = 0; i < 71; i++)
+        put("1 %d %d 0\n", i / 4 + 1, i % 4 + 1);
+    put("1 150 17500 600 700 800 0\n2 151 17500 600 700 800 0\n3 152 400000 600 700 800 0\n");
+    vector("every curve number", "end 3", "conditions I, II and III of 30 to 100");
+}
+
 /* ---------------------------------------------------------------- snow */
 
 static void snowfall(void)
 {
     put_slope(120, 270, 250);
-    put("1 20 9000 280 360 400 0\n2 21 9000 280 361 400 0\n3 22 9000 -1000 -1000 -1000 0\n4 23 9000 320 320 320 0\n5 24 9000 321 321 321 0\n");
-    vector("snow or rain", "end 5", "mean 360, span 280 to 400 is snow, 361 rain; a third of the span counts");
+    put("1 20 9000 280 360 400 0\n2 21 9000 280 361 400 0\n3 22 9000 -1000 -1000 -1000 0\n4 23 9000 320 320 320 0\n5 24 9000 321 321 321 0\n6 25 9000 281 360 400 0\n");
+    vector("snow or rain", "end 6", "mean 360, span 280 to 400 is snow, 361 rain; a third of the span counts");
     put_slope(120, 270, 250);
     put("1 20 100000 -300 -200 -100 0\n2 21 0 300 310 320 0\n3 22 0 300 310 321 0\n4 23 0 300 400 500 0\n5 24 0 1500 1500 1500 0\n6 25 0 600 700 800 0\n");
     vector("melt", "end 6", "a maximum of 320 melts 0, 321 melts 32, 500 melts 5,900; at last all the store");
@@ -317,6 +331,9 @@ static void deep_snow(void)
     vector("two of four cells have no room", "refused 10 at 2", "100 a day are intercepted at cell 0, and snow on open water is gone");
     put("3 1 120 270\n"), put_three_covers(), put("0 3 1 0\n0 3 1 0\n0 2 1 0\n"), put_frost(26);
     vector("snow behind two ponds", "refused 10 at 2", "never on open water; 26 days of 399,900 are too many");
+    put("1 1 120 270\n"), put_three_covers(), put("0 2 1 0\n"), put_frost(25);
+    put("26 26 2600 -300 -200 -100 0\n27 27 100 -300 -200 -100 0\n28 28 101 -300 -200 -100 0\n");
+    vector("snow of 10,000,000 under a canopy", "refused 10 at 0", "100 a day are intercepted and no snowfall: 27 lines stand");
     put("2 1 120 270\n"), put_three_covers(), put("0 2 1 0\n0 1 1 0\n"), put_frost(25), put("26 26 2 -300 -200 -100 0\n");
     vector("interception spares the first cell", "refused 10 at 1", "2 units are intercepted at cell 0 and too many at cell 1");
 }
@@ -344,6 +361,7 @@ static void dry_spells(void)
     dry_spell("dry at no potential", 3, 250, 200, 0, "d is 0, no loss");
     dry_spell("dry just before the table's end", 3, 25, 100, 19999, "k is 2,047");
     dry_spell("dry at the table's end", 3, 25, 100, 20000, "k is 2,048");
+    dry_spell("the table's last two entries", 2, 7, 312, 17465, "k is 2,047 on a capacity that tells F(2,047) from F(2,048)");
     dry_spell("dry past the table's end", 3, 24, 100, 20000, "k is over 2,048");
     dry_spell("dry between two entries", 5, 250, 200, 97, "k is 0, f is not");
 }
@@ -378,6 +396,7 @@ void weather_cases(void)
 {
     seasons();
     conditions();
+    curve_numbers();
     snowfall();
     deep_snow();
     dry_spells();
