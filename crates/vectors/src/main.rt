@@ -2,6 +2,7 @@
 // the input's bytes and the output's, as bench/vectors.c wrote them from the plain C; docs/vectors.txt says what each is for.
 ghost use Prim.Native.Nat.{_≤_};
 ghost use lib.ListN.{length};
+ghost use mathlib.Core.Bool.{true};
 ghost use mathlib.Core.Path.{_≡_};
 use text::Written;
 
@@ -73,7 +74,10 @@ fn heading(fd: i32) -> Lengths {
     Lengths::Sizes(given, expected)
 }
 
-fn same(found: &[u8], wanted: &[u8]) -> bool {
+// True for no two that differ.
+fn same(found: &[u8], wanted: &[u8]) -> bool
+    ensures { λ r. ⌜ (r ≡ true → now (found .entry) ≡ now (wanted .entry)) ⌝ }
+{
     if found.len() != wanted.len() {
         return false;
     }
