@@ -61,7 +61,7 @@ uint64_t edgy(uint64_t lowest, uint64_t highest)
     case 2: return lowest + (span > 0);
     case 3: return highest - (span > 0);
     case 4: { /* small: of every number of bits alike */
-        uint64_t small = random_bits() >> (64 - between(1, 40));
+        uint64_t bits = between(1, 40), small = random_bits() >> (64 - bits);
         return lowest + (small < span ? small : span);
     }
     default: return between(lowest, highest);
@@ -728,7 +728,8 @@ static uint64_t damage_state(const struct grid_case *g, struct state_case *s)
 
     if (chance(25)) {
         static const uint32_t memories[] = {400001, 400002, 1u << 31, ~0u};
-        s->memory[below(BALANCE_MEMORY)] = ONE_OF(memories);
+        uint64_t which = below(BALANCE_MEMORY);
+        s->memory[which] = ONE_OF(memories);
         if (chance(60))
             return refusal(9, g->cells);
     }
@@ -838,7 +839,8 @@ static void list_days(struct listing *l, const struct grid_case *g)
         if (i == 0 && s.last_serial == BALANCE_NO_SERIAL && chance(10))
             d.serial = 9999999 - (uint32_t)below(8); /* to run past the last serial */
         if (long_winter) {
-            d.gross = 400000 - (uint32_t)below(3) * (uint32_t)below(5000);
+            uint32_t times = (uint32_t)below(3);
+            d.gross = 400000 - times * (uint32_t)below(5000);
             d.minimum = d.mean = -10 - (int32_t)below(900);
             d.maximum = d.mean + (int32_t)below(330);
         }
@@ -872,6 +874,15 @@ static void spoil_number(struct listing *l)
                               -256, 65, 4097, 367, 400001, 10000000, -1001, 1501,
                               (int64_t)below(1000000000)};
     *number = ONE_OF(others);
+}
+
+/* Spoils one of the first five numbers. Place and value are drawn in two statements: in one, the
+ * order would be the compiler's own, and a seed would not give the same case everywhere. */
+static void spoil_first(struct listing *l)
+{
+    uint64_t at = below(l->count < 5 ? l->count : 5);
+
+    l->number[at] = chance(50) ? 0 : -5;
 }
 
 /* Makes a run of blanks; the room is ample. */
@@ -951,7 +962,7 @@ size_t make_text(unsigned char *bytes)
         size_t most = chance(30) && l.count > 8 ? 8 : l.count;
         l.count = chance(40) ? below(most) : l.count - 1 - below(most < 8 ? most : 8);
         if (chance(30) && l.count > 0)
-            l.number[below(l.count < 5 ? l.count : 5)] = chance(50) ? 0 : -5;
+            spoil_first(&l);
     } else if (kind < 62 && kind >= 57) { /* too many */
         for (uint64_t more = between(1, 13); more > 0; more--)
             add(&l, (int64_t)below(400));
@@ -964,7 +975,8 @@ size_t make_text(unsigned char *bytes)
         n = below(n + 1);
     } else if (kind >= 80 && kind < 84) { /* a byte changed */
         static const char changes[] = " \n-0159\t+x";
-        bytes[below(n)] = (unsigned char)changes[below(sizeof changes)]; /* NUL among them */
+        size_t at = below(n);
+        bytes[at] = (unsigned char)changes[below(sizeof changes)]; /* NUL among them */
     } else if (kind >= 84 && kind < 88) {
         n = stretch(bytes, n, ONE_OF(lengths));
     } else if (kind == 88) {

@@ -6,10 +6,9 @@
 
 enum {
     TEXT_LONGEST = 65536, /* the most bytes that the program accepts */
-    /* Room that is enough for every output. A day takes at least 14 bytes of input (seven
-     * numbers and seven blanks), so there are fewer than 4,700 days; a line is at most a serial
-     * of 7 digits, seven totals of at most 11 digits with a space each, and a line feed. */
-    TEXT_ROOM = 4700 * (7 + 7 * 12 + 1)
+    /* Room that is enough for every output, and what the proved library asks for: at most 32,768
+     * numbers make 4,681 days; it allows 168 bytes for a day's line and 53 for the last. */
+    TEXT_ROOM = 4681 * 168 + 53
 };
 
 /* Writes the output of the n bytes at in to out, which has room for TEXT_ROOM bytes or more,

@@ -1,6 +1,6 @@
 /* recharge.h: a groundwater office's daily soil-water balance, proved, for C.
  *
- * Three calls: the setup check, the fresh state, and one day. What they do is document 01's law; that they do it, for every
+ * Four calls: the setup check, the fresh state, one day, and the program's whole text. What they do is document 01's law; that they do it, for every
  * input, refused or not, is proved (crates/clib, docs/PROMISES.md). "Test" and "rule" numbers are document 01's.
  *
  * Build the library with `rt staticlib clib` (x86-64 Linux) and link target/staticlib/libclib.a. It needs nothing else.
@@ -47,7 +47,8 @@ enum {
     RECHARGE_MAX_COVERS = 64,
     RECHARGE_ENTRY = 16, /* numbers in one entry of the cover table */
     RECHARGE_MEMORY = 5,
-    RECHARGE_TOTALS = 7
+    RECHARGE_TOTALS = 7,
+    RECHARGE_TEXT = 786461 /* bytes of the longest text */
 };
 
 /* The last serial of a state that has seen no day. It is no serial: those go from 0 to 9,999,999. */
@@ -134,6 +135,15 @@ uint64_t recharge_day(uint32_t width, uint32_t height, uint32_t first, uint32_t 
                       uint64_t *totals, size_t totals_len,
                       uint32_t serial, uint32_t day_of_year, uint32_t gross,
                       int32_t minimum, int32_t mean, int32_t maximum, uint32_t potential);
+
+/* The program `balance` as a function: what it prints for the input's bytes.
+ *
+ *   input          any bytes; more than 65,536 of them are refused as text (11 at 0)
+ *   output         at least RECHARGE_TEXT bytes: room for the longest text
+ *
+ * Returns how many bytes it wrote from the front of output on; every other byte is as it was. No text is empty: 0 comes back
+ * where output is shorter than RECHARGE_TEXT, and nothing is written. It uses about 420,000 bytes of stack. */
+size_t recharge_text(const unsigned char *input, size_t input_len, unsigned char *output, size_t output_len);
 
 #ifdef __cplusplus
 }

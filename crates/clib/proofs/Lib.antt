@@ -1,3 +1,4 @@
 pub mod PlaceLaws
 pub mod WriteLaws
 pub mod HandedLaws
+pub mod TextLaws

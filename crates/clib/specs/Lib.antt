@@ -1,3 +1,4 @@
 pub mod Numbers
 pub mod Handed
 pub mod Narrow
+pub mod Texts

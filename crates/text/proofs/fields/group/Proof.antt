@@ -2,11 +2,12 @@
 use Rattle.text.proofs.fields.group.Statement.{statement}
 use Rattle.text.proofs.fields.group.Tie as tie
 use borrow.Author.Tests.{lt-ltb, le-ltb}
+use Rattle.text.specs.Words.{negatives}
 use Rattle.text.specs.Program.{groupIn}
 
 returns : tie.Need-returns
 unfolding groupIn
-returns c = simp (lt-ltb _ _ (c .if1 .taken))
+returns c = simp (lt-ltb negatives _ (c .if1 .taken))
 
 returns-2 : tie.Need-returns-2
 unfolding groupIn

@@ -1,0 +1,105 @@
+#!/bin/sh
+# The library beside the outside tables. crates/figures/stdout has the library's figures (rt holds the program to it); bench/outside/ has the published
+# ones. This checks that the plain C has the same figures as the library, and that the tables in docs/VECTORS.md are those that come out.
+#
+#     bench/outside.sh          checks; writes nothing outside bench/build/
+#     bench/outside.sh write    writes crates/figures/stdout and the tables in docs/VECTORS.md
+set -eu
+cd "$(dirname "$0")/.."
+mode=${1:-check}
+made=bench/build
+mkdir -p $made
+CC=${CC:-cc}
+
+$CC -std=c11 -Wall -Wextra -Wconversion -Wshadow -O2 bench/outside.c bench/plain.c -o $made/outside
+$made/outside > $made/figures.stdout
+[ "$mode" != write ] || cp $made/figures.stdout crates/figures/stdout
+cmp $made/figures.stdout crates/figures/stdout
+ours=crates/figures/stdout
+
+# Ours less theirs, with its sign; nothing where they print nothing.
+signed='function signed(a, b) { return b == "" ? "" : a == b ? "0" : sprintf("%+d", a - b) }'
+
+awk -F'[ ,]' "$signed"'
+/^#/ { next }
+FNR == NR { if ($1 == "curve") { i[$2] = $3; iii[$2] = $5 } next }
+FNR != NR {
+    if (!head++) print "| II | I: ours | 000 | | 002 | | III: ours | 000 | | 002 | |\n|---|---|---|---|---|---|---|---|---|---|---|"
+    print "| " $1 " | " i[$1] " | " $2 " | " signed(i[$1], $2) " | " $4 " | " signed(i[$1], $4) " | " iii[$1] " | " $3 " | " signed(iii[$1], $3) " | " $5 " | " signed(iii[$1], $5) " |"
+}' $ours bench/outside/curve_numbers.csv > $made/curves.md
+
+# How many published numbers lie how far off.
+awk -F'[ ,]' "$signed"'
+/^#/ { next }
+FNR == NR { if ($1 == "curve") { i[$2] = $3; iii[$2] = $5 } next }
+{ seen["000, I", signed(i[$1], $2)]++; seen["000, III", signed(iii[$1], $3)]++
+  if ($4 != "") { seen["002, I", signed(i[$1], $4)]++; seen["002, III", signed(iii[$1], $5)]++ } }
+END {
+    n = split("000, I;000, III;002, I;002, III", who, ";")
+    print "| table, condition | -5 | -4 | -3 | -2 | -1 | the same | +1 | +2 |\n|---|---|---|---|---|---|---|---|---|"
+    for (k = 1; k <= n; k++) {
+        printf "| %s |", who[k]
+        for (d = -5; d <= 2; d++) printf " %s |", seen[who[k], d == 0 ? "0" : sprintf("%+d", d)] + 0
+        print ""
+    }
+}' $ours bench/outside/curve_numbers.csv > $made/spread.md
+
+awk -F'[ ,]' '
+/^#/ { next }
+FNR == NR { if ($1 == "soil") { half[$2] = $3; once[$2] = $4; twice[$2] = $5 } next }
+function row(t, soil, x,    fit, gap) {
+    fit = a * exp(-b * x)
+    gap = sprintf("%+.3f", soil / 10000 - fit)
+    return sprintf(" %.3f | %.3f | %s |", soil / 10000, fit, gap + 0 == 0 ? "0" : gap)
+}
+{
+    if (!head++) print "| capacity | C/2: ours | fit | gap | C: ours | fit | gap | 2C: ours | fit | gap |\n|---|---|---|---|---|---|---|---|---|---|"
+    t = int($1 * 10 + 0.5); a = $2; b = $3
+    printf "| %.1f |%s%s%s\n", $1, row(t, half[t], $1 / 2), row(t, once[t], $1), row(t, twice[t], 2 * $1)
+}' $ours bench/outside/retention.csv > $made/retention.md
+
+# The largest gaps by capacity: in inches, and as a share of the capacity.
+awk -F'|' 'NR > 2 {
+    c = $2 + 0; k = c <= 1 ? 1 : c <= 2 ? 2 : c <= 4 ? 3 : c <= 8 ? 4 : 5
+    for (j = 5; j <= 11; j += 3) {
+        gap = $j < 0 ? -$j : $j + 0
+        if (gap > most[k, j]) most[k, j] = gap
+        if (gap / c > share[k, j]) share[k, j] = gap / c
+    }
+}
+END {
+    split("0.5 to 1.0;1.1 to 2.0;2.1 to 4.0;4.1 to 8.0;8.1 to 17.2", name, ";")
+    print "| capacity, inches | largest gap at C/2 | largest share of C | gap at C | share | gap at 2C | share |\n|---|---|---|---|---|---|---|"
+    for (k = 1; k <= 5; k++) {
+        printf "| %s |", name[k]
+        for (j = 5; j <= 11; j += 3) printf " %.3f | %.1f %% |", most[k, j], 100 * share[k, j]
+        print ""
+    }
+}' $made/retention.md > $made/gaps.md
+
+awk -F'[ ,]' '
+/^#/ { next }
+FNR == NR { if ($1 == "snow") { snows[$2] = $3; store[$2] = $4; reached[$2] = $5 } next }
+{
+    if (!head++) print "| January 1993 | mean | max | min | inches | mean - span/3 | 003, 004 | ours | min + 2/3 span | 003, table 11 | snow after, ours | water, ours |\n|---|---|---|---|---|---|---|---|---|---|---|---|"
+    span = $4 - $5; by4 = $2 - span / 3; by11 = $5 + span * 2 / 3
+    printf "| %d | %s | %s | %s | %s | %.1f | %s | %s | %.1f | %s | %.4f | %.4f |\n", $1, $2, $4, $5, $3, by4, by4 <= 32 ? "snow" : "rain", snows[$1] ? "snow" : "rain", by11, by11 <= 32 ? "snow" : "rain", store[$1] / 10000, reached[$1] / 10000
+}' $ours bench/outside/snow_days.csv > $made/snow.md
+
+awk -F'\t' '
+{ split($4, w, " "); n = w[1] == "refused" ? w[2] : 0; count[n]++
+  if (n && !((n, w[4]) in seen)) { seen[n, w[4]] = 1; places[n]++; list[n] = list[n] (places[n] > 12 ? "" : (places[n] > 1 ? ", " : "") w[4]) } }
+END {
+    print "| refusal | vectors | different places | the first of them |\n|---|---|---|---|"
+    for (n = 1; n <= 11; n++) print "| " n " | " count[n] + 0 " | " places[n] + 0 " | " list[n] (places[n] > 12 ? ", .." : "") " |"
+    print "| none (`end`) | " count[0] " | | |"
+}' docs/vectors.txt > $made/refusals.md
+
+# The document with each table between its markers.
+awk -v made=$made '
+/^<!-- end -->$/ { skip = 0 }
+!skip { print }
+/^<!-- made: [a-z]* -->$/ { while ((getline line < (made "/" $3 ".md")) > 0) print line; skip = 1 }' docs/VECTORS.md > $made/VECTORS.md
+[ "$mode" != write ] || cp $made/VECTORS.md docs/VECTORS.md
+cmp $made/VECTORS.md docs/VECTORS.md
+echo 'the outside tables are as docs/VECTORS.md has them'

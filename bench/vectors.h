@@ -1,0 +1,24 @@
+/* How a vector's text is put together, and the four files' worth of cases. */
+#ifndef VECTORS_H
+#define VECTORS_H
+
+#include <stddef.h>
+
+/* Appends to the text that is being made. */
+__attribute__((format(printf, 1, 2))) void put(const char *format, ...);
+void put_byte(int byte);
+void pad_to(size_t length); /* with blanks */
+
+/* A cover entry with one figure for all four groups. */
+void put_cover(int code, int water, int curve, int most, int growing, int dormant, int root);
+
+/* Ends the text: works out its output, which must end in the line `ends` (NULL: any), and
+ * writes the vector. */
+void vector(const char *name, const char *ends, const char *reason);
+
+void form_cases(void);    /* characters, numbers, length, cut-off ends: refusal 11 */
+void limit_cases(void);   /* each field just inside and just outside: 1, 3, 4, 6, 7, 8 */
+void grid_cases(void);    /* flow over small and largest grids, rings: 5 */
+void weather_cases(void); /* seasons, conditions, snow, dry spells: 10 */
+
+#endif

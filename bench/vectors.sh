@@ -1,0 +1,43 @@
+#!/bin/sh
+# The vectors of crates/vectors and the outputs of examples/, worked out by the plain C.
+#
+#     bench/vectors.sh          checks that what is stored is what comes out; writes nothing outside bench/build/
+#     bench/vectors.sh write    stores it
+set -eu
+cd "$(dirname "$0")/.."
+mkdir -p bench/build
+
+CC=${CC:-cc}
+WARN="-std=c11 -Wall -Wextra -Wconversion -Wshadow"
+made=bench/build
+
+# Keeps MADE as STORED, or holds STORED to it.
+keep() {
+    if [ "$mode" = write ]; then
+        mkdir -p "$(dirname "$2")"
+        cp "$1" "$2"
+    else
+        cmp "$1" "$2"
+    fi
+}
+mode=${1:-check}
+
+# shellcheck disable=SC2086
+(cd bench && $CC $WARN -O2 vectors.c vectors_text.c vectors_water.c cases.c plain.c plain_text.c -o build/vectors &&
+    $CC $WARN -O2 plain_balance.c plain.c plain_text.c -o build/plain_balance)
+
+examples/year/make.sh > $made/year.txt
+keep $made/year.txt examples/year/year.txt
+for example in ridge year/year; do
+    name=$(basename $example)
+    $made/plain_balance < examples/$example.txt > "$made/$name.out"
+    keep "$made/$name.out" examples/$example.out
+done
+
+$made/vectors $made/vectors.pack $made/vectors.list ridge examples/ridge.txt year examples/year/year.txt
+keep $made/vectors.pack crates/vectors/data/vectors
+keep $made/vectors.list docs/vectors.txt
+count=$(wc -l < docs/vectors.txt)
+printf 'a short buffer is left alone\n%d vectors, 0 differ\n' "$count" > $made/vectors.stdout
+keep $made/vectors.stdout crates/vectors/stdout
+printf '%d vectors and two examples are as the plain C has them\n' "$count"
