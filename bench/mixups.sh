@@ -12,7 +12,8 @@ mkdir -p "$work/mixup/src"
 source=$work/mixup/src/lib.rt
 
 check() { # what the toolchain says of the crate
-    rt check "$work/mixup" --extern "recharge=$PWD/target/rlib/recharge.rlib" -L "dependency=$PWD/target/rlib" >"$work/said" 2>&1
+    rt check "$work/mixup" --extern "recharge=$PWD/target/rlib/recharge.rlib" --extern "records=$PWD/target/rlib/records.rlib" \
+        -L "dependency=$PWD/target/rlib" >"$work/said" 2>&1
 }
 
 parameter() { # NAME WANTED GIVEN: a function that wants one quantity, and one that hands it the other
