@@ -1,6 +1,4 @@
 // The survey of a setup: tests 1 to 6, and what a day needs of it: every cell's slot, where it points, and the order of the cells.
-ghost use lib.ListN.{replicate};
-ghost use mathlib.Core.Path.{_≡_};
 ghost use Rattle.records.specs.Calls.{setupOf};
 ghost use Rattle.survey.specs.Survey.{Blank, Surveyable, Chart, Surveyed};
 use crate::cells::lay_ways;

@@ -31,19 +31,32 @@ place-requires c κs = search needs
 
 mul-cell-way : tie.Need-mul-cell-way Inv-loop μ-loop
 unfolding entries
-mul-cell-way c = omega (arith, c .place .ensures, c .before .before .before .before .before .before .pre .slotted (c .before .before .before .loop .i) (omega arith))
+mul-cell-way c =
+    let at-loop = c .before .before .before in
+    let start = at-loop .before .before .before in
+    omega (arith, c .place .ensures, start .pre .slotted (at-loop .loop .i) (omega arith))
 
 add-cell-way : tie.Need-add-cell-way Inv-loop μ-loop
 unfolding entries
-add-cell-way c = omega (arith, c .place .ensures, c .before .before .before .before .before .before .pre .slotted (c .before .before .before .loop .i) (omega arith))
+add-cell-way c =
+    let at-loop = c .before .before .before in
+    let start = at-loop .before .before .before in
+    omega (arith, c .place .ensures, start .pre .slotted (at-loop .loop .i) (omega arith))
 
 mul-cell-way-2 : tie.Need-mul-cell-way-2 Inv-loop μ-loop
 unfolding entries
-mul-cell-way-2 c = omega (arith, c .place .ensures, c .before .before .before .before .before .before .pre .slotted (c .before .before .before .loop .i) (omega arith))
+mul-cell-way-2 c =
+    let at-loop = c .before .before .before in
+    let start = at-loop .before .before .before in
+    omega (arith, c .place .ensures, start .pre .slotted (at-loop .loop .i) (omega arith))
 
 shared-slice-read-cell-way : tie.Need-shared-slice-read-cell-way Inv-loop μ-loop
 unfolding entries
-shared-slice-read-cell-way c = omega (arith, c .before .place .ensures, c .before .before .before .before .before .before .before .pre .slotted (c .before .before .before .before .loop .i) (omega arith))
+shared-slice-read-cell-way c =
+    let at-place = c .before in
+    let at-loop = at-place .before .before .before in
+    let start = at-loop .before .before .before in
+    omega (arith, at-place .place .ensures, start .pre .slotted (at-loop .loop .i) (omega arith))
 
 mul-cell-way-3 : tie.Need-mul-cell-way-3 Inv-loop μ-loop
 mul-cell-way-3 c = search needs
@@ -53,8 +66,10 @@ shared-slice-read-cell-way-2 c = search needs
 
 cell-way-requires : tie.Need-cell-way-requires Inv-loop μ-loop
 cell-way-requires c κs =
-    let s = c .before .before .before .before .before .before .before .before in
-    let l = c .before .before .before .before .before .loop in
+    let at-loop = c .before .before .before .before .before in
+    let at-before = at-loop .before .before in
+    let s = at-before .before in
+    let l = at-loop .loop in
     (laid-row _ _ _ _ _ _ (l .ways) (l .row) (l .column) (l .i) (l .inv .1) (omega arith), l .inv .1 .inside, s .pre .few)
 
 mul-ways : tie.Need-mul-ways Inv-loop μ-loop
@@ -85,16 +100,20 @@ way-read : (c : tie.Joined1 Inv-loop μ-loop)
 way-read c = rw (← c .before .before .before .before .place .ensures) (c .before .cell-way .ensures)
 
 loop-again : tie.Need-loop-again Inv-loop μ-loop
-loop-again c = (
-  c .before .before .before .before .before .before .before .before .before .before .pre .each,
-  ⊎-elim (λ w. laid-down _ _ _ _ _ _ (c .before .before .before .before .before .before .before .loop .ways) (c .before .before .before .before .before .before .before .loop .row) (c .before .before .before .before .before .before .before .loop .column) (c .before .before .before .before .before .before .before .loop .i) (c .before .before .before .before .before .before .before .loop .inv .1) (omega arith) _ (c .before .before .before .before .before .before .before .before .before .before .pre .ways-sized) (c .before .before .before .before .before .before .before .before .before .before .pre .few) (way-read c) _ _ (w .0 .taken) (w .1) (w .2))
-      (λ w. laid-right _ _ _ _ _ _ (c .before .before .before .before .before .before .before .loop .ways) (c .before .before .before .before .before .before .before .loop .row) (c .before .before .before .before .before .before .before .loop .column) (c .before .before .before .before .before .before .before .loop .i) (c .before .before .before .before .before .before .before .loop .inv .1) (omega arith) _ (c .before .before .before .before .before .before .before .before .before .before .pre .ways-sized) (c .before .before .before .before .before .before .before .before .before .before .pre .few) (way-read c) _ _ (w .0 .left) (w .1) (w .2)) (c .if1 .came),
-)
+loop-again c =
+    let at-loop = c .before .before .before .before .before .before .before in
+    let start = at-loop .before .before .before in (
+      start .pre .each,
+      ⊎-elim (λ w. laid-down _ _ _ _ _ _ (at-loop .loop .ways) (at-loop .loop .row) (at-loop .loop .column) (at-loop .loop .i) (at-loop .loop .inv .1) (omega arith) _ (start .pre .ways-sized) (start .pre .few) (way-read c) _ _ (w .0 .taken) (w .1) (w .2))
+          (λ w. laid-right _ _ _ _ _ _ (at-loop .loop .ways) (at-loop .loop .row) (at-loop .loop .column) (at-loop .loop .i) (at-loop .loop .inv .1) (omega arith) _ (start .pre .ways-sized) (start .pre .few) (way-read c) _ _ (w .0 .left) (w .1) (w .2)) (c .if1 .came),
+    )
 
 returns : tie.Need-returns Inv-loop μ-loop
 returns c =
-    let l = c .before .loop in
-    let all : l .i ≡ c .before .before .before .before .args .width * c .before .before .before .before .args .height = omega arith in
+    let at-loop = c .before in
+    let a = at-loop .before .before .before .args in
+    let l = at-loop .loop in
+    let all : l .i ≡ a .width * a .height = omega arith in
     rw all at (l .inv .1 .laid)
 
 pub lay-ways-spec : {M : Type 1} → statement M

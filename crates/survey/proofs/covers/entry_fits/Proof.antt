@@ -32,9 +32,12 @@ returns-2 c =
 returns-3 : tie.Need-returns-3
 unfolding entryFits
 returns-3 c =
-    let if2h = c .before .if2 .left in
+    let at-if2 = c .before in
+    let at-if1 = at-if2 .before .before in
+    let at-rises = at-if1 .before in
+    let if2h = at-if2 .if2 .left in
     let if3h = c .if3 .taken in
-    simp (sym (c .before .before .before .before .rises .ensures) ∙ not-false _ (c .before .before .before .if1 .left), le-leb, lt-leb)
+    simp (sym (at-rises .rises .ensures) ∙ not-false _ (at-if1 .if1 .left), le-leb, lt-leb)
 
 mul-if4 : tie.Need-mul-if4
 mul-if4 c = search needs
@@ -51,10 +54,14 @@ shared-slice-read-if4 c = search needs
 returns-4 : tie.Need-returns-4
 unfolding entryFits
 returns-4 c =
-    let if2h = c .before .before .before .if2 .left in
-    let if3h = c .before .before .if3 .left in
+    let at-if3 = c .before .before in
+    let at-if2 = at-if3 .before in
+    let at-if1 = at-if2 .before .before in
+    let at-rises = at-if1 .before in
+    let if2h = at-if2 .if2 .left in
+    let if3h = at-if3 .if3 .left in
     let if4h = c .if4 .taken in
-    simp (sym (c .before .before .before .before .before .before .rises .ensures) ∙ not-false _ (c .before .before .before .before .before .if1 .left), le-leb, lt-leb)
+    simp (sym (at-rises .rises .ensures) ∙ not-false _ (at-if1 .if1 .left), le-leb, lt-leb)
 
 group-fits-requires : tie.Need-group-fits-requires
 group-fits-requires c κs = search needs
@@ -62,10 +69,16 @@ group-fits-requires c κs = search needs
 returns-5 : tie.Need-returns-5
 unfolding entryFits
 returns-5 c =
-    let if2h = c .before .before .before .before .before .if2 .left in
-    let if3h = c .before .before .before .before .if3 .left in
-    let if4h = c .before .before .if4 .left in
-    simp (sym (c .before .before .before .before .before .before .before .before .rises .ensures) ∙ not-false _ (c .before .before .before .before .before .before .before .if1 .left), sym (c .before .group-fits .ensures) ∙ not-true _ (c .if5 .taken), le-leb, lt-leb)
+    let at-group-fits = c .before in
+    let at-if4 = at-group-fits .before in
+    let at-if3 = at-if4 .before .before in
+    let at-if2 = at-if3 .before in
+    let at-if1 = at-if2 .before .before in
+    let at-rises = at-if1 .before in
+    let if2h = at-if2 .if2 .left in
+    let if3h = at-if3 .if3 .left in
+    let if4h = at-if4 .if4 .left in
+    simp (sym (at-rises .rises .ensures) ∙ not-false _ (at-if1 .if1 .left), sym (at-group-fits .group-fits .ensures) ∙ not-true _ (c .if5 .taken), le-leb, lt-leb)
 
 group-fits-requires-2 : tie.Need-group-fits-requires-2
 group-fits-requires-2 c κs = search needs
@@ -73,10 +86,18 @@ group-fits-requires-2 c κs = search needs
 returns-6 : tie.Need-returns-6
 unfolding entryFits
 returns-6 c =
-    let if2h = c .before .before .before .before .before .before .before .if2 .left in
-    let if3h = c .before .before .before .before .before .before .if3 .left in
-    let if4h = c .before .before .before .before .if4 .left in
-    simp (sym (c .before .before .before .before .before .before .before .before .before .before .rises .ensures) ∙ not-false _ (c .before .before .before .before .before .before .before .before .before .if1 .left), sym (c .before .before .before .group-fits .ensures) ∙ not-false _ (c .before .before .if5 .left), sym (c .before .group-fits2 .ensures) ∙ not-true _ (c .if6 .taken), le-leb, lt-leb)
+    let at-group-fits2 = c .before in
+    let at-if5 = at-group-fits2 .before in
+    let at-group-fits = at-if5 .before in
+    let at-if4 = at-group-fits .before in
+    let at-if3 = at-if4 .before .before in
+    let at-if2 = at-if3 .before in
+    let at-if1 = at-if2 .before .before in
+    let at-rises = at-if1 .before in
+    let if2h = at-if2 .if2 .left in
+    let if3h = at-if3 .if3 .left in
+    let if4h = at-if4 .if4 .left in
+    simp (sym (at-rises .rises .ensures) ∙ not-false _ (at-if1 .if1 .left), sym (at-group-fits .group-fits .ensures) ∙ not-false _ (at-if5 .if5 .left), sym (at-group-fits2 .group-fits2 .ensures) ∙ not-true _ (c .if6 .taken), le-leb, lt-leb)
 
 group-fits-requires-3 : tie.Need-group-fits-requires-3
 group-fits-requires-3 c κs = search needs
@@ -84,10 +105,20 @@ group-fits-requires-3 c κs = search needs
 returns-7 : tie.Need-returns-7
 unfolding entryFits
 returns-7 c =
-    let if2h = c .before .before .before .before .before .before .before .before .before .if2 .left in
-    let if3h = c .before .before .before .before .before .before .before .before .if3 .left in
-    let if4h = c .before .before .before .before .before .before .if4 .left in
-    simp (sym (c .before .before .before .before .before .before .before .before .before .before .before .before .rises .ensures) ∙ not-false _ (c .before .before .before .before .before .before .before .before .before .before .before .if1 .left), sym (c .before .before .before .before .before .group-fits .ensures) ∙ not-false _ (c .before .before .before .before .if5 .left), sym (c .before .before .before .group-fits2 .ensures) ∙ not-false _ (c .before .before .if6 .left), sym (c .before .group-fits3 .ensures) ∙ not-true _ (c .if7 .taken), le-leb, lt-leb)
+    let at-group-fits3 = c .before in
+    let at-if6 = at-group-fits3 .before in
+    let at-group-fits2 = at-if6 .before in
+    let at-if5 = at-group-fits2 .before in
+    let at-group-fits = at-if5 .before in
+    let at-if4 = at-group-fits .before in
+    let at-if3 = at-if4 .before .before in
+    let at-if2 = at-if3 .before in
+    let at-if1 = at-if2 .before .before in
+    let at-rises = at-if1 .before in
+    let if2h = at-if2 .if2 .left in
+    let if3h = at-if3 .if3 .left in
+    let if4h = at-if4 .if4 .left in
+    simp (sym (at-rises .rises .ensures) ∙ not-false _ (at-if1 .if1 .left), sym (at-group-fits .group-fits .ensures) ∙ not-false _ (at-if5 .if5 .left), sym (at-group-fits2 .group-fits2 .ensures) ∙ not-false _ (at-if6 .if6 .left), sym (at-group-fits3 .group-fits3 .ensures) ∙ not-true _ (c .if7 .taken), le-leb, lt-leb)
 
 group-fits-requires-4 : tie.Need-group-fits-requires-4
 group-fits-requires-4 c κs = search needs
@@ -95,10 +126,22 @@ group-fits-requires-4 c κs = search needs
 returns-8 : tie.Need-returns-8
 unfolding entryFits
 returns-8 c =
-    let if2h = c .before .before .before .before .before .before .before .before .before .before .before .if2 .left in
-    let if3h = c .before .before .before .before .before .before .before .before .before .before .if3 .left in
-    let if4h = c .before .before .before .before .before .before .before .before .if4 .left in
-    simp (sym (c .before .before .before .before .before .before .before .before .before .before .before .before .before .before .rises .ensures) ∙ not-false _ (c .before .before .before .before .before .before .before .before .before .before .before .before .before .if1 .left), sym (c .before .before .before .before .before .before .before .group-fits .ensures) ∙ not-false _ (c .before .before .before .before .before .before .if5 .left), sym (c .before .before .before .before .before .group-fits2 .ensures) ∙ not-false _ (c .before .before .before .before .if6 .left), sym (c .before .before .before .group-fits3 .ensures) ∙ not-false _ (c .before .before .if7 .left), sym (c .before .group-fits4 .ensures) ∙ not-true _ (c .if8 .taken), le-leb, lt-leb)
+    let at-group-fits4 = c .before in
+    let at-if7 = at-group-fits4 .before in
+    let at-group-fits3 = at-if7 .before in
+    let at-if6 = at-group-fits3 .before in
+    let at-group-fits2 = at-if6 .before in
+    let at-if5 = at-group-fits2 .before in
+    let at-group-fits = at-if5 .before in
+    let at-if4 = at-group-fits .before in
+    let at-if3 = at-if4 .before .before in
+    let at-if2 = at-if3 .before in
+    let at-if1 = at-if2 .before .before in
+    let at-rises = at-if1 .before in
+    let if2h = at-if2 .if2 .left in
+    let if3h = at-if3 .if3 .left in
+    let if4h = at-if4 .if4 .left in
+    simp (sym (at-rises .rises .ensures) ∙ not-false _ (at-if1 .if1 .left), sym (at-group-fits .group-fits .ensures) ∙ not-false _ (at-if5 .if5 .left), sym (at-group-fits2 .group-fits2 .ensures) ∙ not-false _ (at-if6 .if6 .left), sym (at-group-fits3 .group-fits3 .ensures) ∙ not-false _ (at-if7 .if7 .left), sym (at-group-fits4 .group-fits4 .ensures) ∙ not-true _ (c .if8 .taken), le-leb, lt-leb)
 
 mul-if9 : tie.Need-mul-if9
 mul-if9 c = search needs
@@ -115,11 +158,24 @@ shared-slice-read-if9 c = search needs
 returns-9 : tie.Need-returns-9
 unfolding entryFits
 returns-9 c =
-    let if2h = c .before .before .before .before .before .before .before .before .before .before .before .before .before .if2 .left in
-    let if3h = c .before .before .before .before .before .before .before .before .before .before .before .before .if3 .left in
-    let if4h = c .before .before .before .before .before .before .before .before .before .before .if4 .left in
+    let at-if8 = c .before .before in
+    let at-group-fits4 = at-if8 .before in
+    let at-if7 = at-group-fits4 .before in
+    let at-group-fits3 = at-if7 .before in
+    let at-if6 = at-group-fits3 .before in
+    let at-group-fits2 = at-if6 .before in
+    let at-if5 = at-group-fits2 .before in
+    let at-group-fits = at-if5 .before in
+    let at-if4 = at-group-fits .before in
+    let at-if3 = at-if4 .before .before in
+    let at-if2 = at-if3 .before in
+    let at-if1 = at-if2 .before .before in
+    let at-rises = at-if1 .before in
+    let if2h = at-if2 .if2 .left in
+    let if3h = at-if3 .if3 .left in
+    let if4h = at-if4 .if4 .left in
     let if9h = c .if9 .taken in
-    simp (sym (c .before .before .before .before .before .before .before .before .before .before .before .before .before .before .before .before .rises .ensures) ∙ not-false _ (c .before .before .before .before .before .before .before .before .before .before .before .before .before .before .before .if1 .left), sym (c .before .before .before .before .before .before .before .before .before .group-fits .ensures) ∙ not-false _ (c .before .before .before .before .before .before .before .before .if5 .left), sym (c .before .before .before .before .before .before .before .group-fits2 .ensures) ∙ not-false _ (c .before .before .before .before .before .before .if6 .left), sym (c .before .before .before .before .before .group-fits3 .ensures) ∙ not-false _ (c .before .before .before .before .if7 .left), sym (c .before .before .before .group-fits4 .ensures) ∙ not-false _ (c .before .before .if8 .left), le-leb, lt-leb)
+    simp (sym (at-rises .rises .ensures) ∙ not-false _ (at-if1 .if1 .left), sym (at-group-fits .group-fits .ensures) ∙ not-false _ (at-if5 .if5 .left), sym (at-group-fits2 .group-fits2 .ensures) ∙ not-false _ (at-if6 .if6 .left), sym (at-group-fits3 .group-fits3 .ensures) ∙ not-false _ (at-if7 .if7 .left), sym (at-group-fits4 .group-fits4 .ensures) ∙ not-false _ (at-if8 .if8 .left), le-leb, lt-leb)
 
 mul-result : tie.Need-mul-result
 mul-result c = search needs
@@ -136,11 +192,25 @@ shared-slice-read-result c = search needs
 returns-10 : tie.Need-returns-10
 unfolding entryFits
 returns-10 c =
-    let if2h = c .before .before .before .before .before .before .before .before .before .before .before .before .before .before .if2 .left in
-    let if3h = c .before .before .before .before .before .before .before .before .before .before .before .before .before .if3 .left in
-    let if4h = c .before .before .before .before .before .before .before .before .before .before .before .if4 .left in
-    let if9h = c .before .if9 .left in
-    simp (sym (c .before .before .before .before .before .before .before .before .before .before .before .before .before .before .before .before .before .rises .ensures) ∙ not-false _ (c .before .before .before .before .before .before .before .before .before .before .before .before .before .before .before .before .if1 .left), sym (c .before .before .before .before .before .before .before .before .before .before .group-fits .ensures) ∙ not-false _ (c .before .before .before .before .before .before .before .before .before .if5 .left), sym (c .before .before .before .before .before .before .before .before .group-fits2 .ensures) ∙ not-false _ (c .before .before .before .before .before .before .before .if6 .left), sym (c .before .before .before .before .before .before .group-fits3 .ensures) ∙ not-false _ (c .before .before .before .before .before .if7 .left), sym (c .before .before .before .before .group-fits4 .ensures) ∙ not-false _ (c .before .before .before .if8 .left), le-leb, lt-leb)
+    let at-if9 = c .before in
+    let at-if8 = at-if9 .before .before in
+    let at-group-fits4 = at-if8 .before in
+    let at-if7 = at-group-fits4 .before in
+    let at-group-fits3 = at-if7 .before in
+    let at-if6 = at-group-fits3 .before in
+    let at-group-fits2 = at-if6 .before in
+    let at-if5 = at-group-fits2 .before in
+    let at-group-fits = at-if5 .before in
+    let at-if4 = at-group-fits .before in
+    let at-if3 = at-if4 .before .before in
+    let at-if2 = at-if3 .before in
+    let at-if1 = at-if2 .before .before in
+    let at-rises = at-if1 .before in
+    let if2h = at-if2 .if2 .left in
+    let if3h = at-if3 .if3 .left in
+    let if4h = at-if4 .if4 .left in
+    let if9h = at-if9 .if9 .left in
+    simp (sym (at-rises .rises .ensures) ∙ not-false _ (at-if1 .if1 .left), sym (at-group-fits .group-fits .ensures) ∙ not-false _ (at-if5 .if5 .left), sym (at-group-fits2 .group-fits2 .ensures) ∙ not-false _ (at-if6 .if6 .left), sym (at-group-fits3 .group-fits3 .ensures) ∙ not-false _ (at-if7 .if7 .left), sym (at-group-fits4 .group-fits4 .ensures) ∙ not-false _ (at-if8 .if8 .left), le-leb, lt-leb)
 
 pub entry-fits-spec : {M : Type 1} → statement M
 entry-fits-spec =

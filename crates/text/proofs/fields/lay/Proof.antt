@@ -25,16 +25,28 @@ copy-requires : tie.Need-copy-requires
 copy-requires c κs = table-fits (c .before .before .before .before .before .before .before)
 
 column-requires : tie.Need-column-requires
-column-requires c κs = (cells-fit (c .before .before .before .before .before .before .before .before .before .before .before) _ (c .before .before .before .before .before .before .before .before .before .before .before .pre .directions), lit< tt)
+column-requires c κs =
+    let at-before = c .before .before .before .before .before .before .before .before .before .before in
+    let start = at-before .before in
+    (cells-fit (at-before .before) _ (start .pre .directions), lit< tt)
 
 column-requires-2 : tie.Need-column-requires-2
-column-requires-2 c κs = (cells-fit (c .before .before .before .before .before .before .before .before .before .before .before .before .before .before .before) _ (c .before .before .before .before .before .before .before .before .before .before .before .before .before .before .before .pre .codes), lit< tt)
+column-requires-2 c κs =
+    let at-before = c .before .before .before .before .before .before .before .before .before .before .before .before .before .before in
+    let start = at-before .before in
+    (cells-fit (at-before .before) _ (start .pre .codes), lit< tt)
 
 groups-requires : tie.Need-groups-requires
-groups-requires c κs = cells-fit (c .before .before .before .before .before .before .before .before .before .before .before .before .before .before .before .before .before .before .before) _ (c .before .before .before .before .before .before .before .before .before .before .before .before .before .before .before .before .before .before .before .pre .groups)
+groups-requires c κs =
+    let at-before = c .before .before .before .before .before .before .before .before .before .before .before .before .before .before .before .before .before .before in
+    let start = at-before .before in
+    cells-fit (at-before .before) _ (start .pre .groups)
 
 column-requires-3 : tie.Need-column-requires-3
-column-requires-3 c κs = (cells-fit (c .before .before .before .before .before .before .before .before .before .before .before .before .before .before .before .before .before .before .before .before .before .before .before) _ (c .before .before .before .before .before .before .before .before .before .before .before .before .before .before .before .before .before .before .before .before .before .before .before .pre .waters), lit< tt)
+column-requires-3 c κs =
+    let at-before = c .before .before .before .before .before .before .before .before .before .before .before .before .before .before .before .before .before .before .before .before .before .before in
+    let start = at-before .before in
+    (cells-fit (at-before .before) _ (start .pre .waters), lit< tt)
 
 same-length : tie.Need-same-length
 same-length c = search needs
@@ -52,12 +64,20 @@ same-length-5 : tie.Need-same-length-5
 same-length-5 c = search needs
 
 returns : tie.Need-returns
-returns c = laid (c .before .before .before .before .before .before .before .before .before .before .before .before .before .before .before .before .before .before .before .before .before .before .before .before .before .before .args .numbers .now) (c .before .before .before .before .before .before .before .before .before .before .before .before .before .before .before .before .before .before .before .before .before .before .before .before .before .before .args .covers .now) (c .before .before .before .before .before .before .before .before .before .before .before .before .before .before .before .before .before .before .before .before .before .before .before .before .before .before .args .direction .now) (c .before .before .before .before .before .before .before .before .before .before .before .before .before .before .before .before .before .before .before .before .before .before .before .before .before .before .args .cover .now) (c .before .before .before .before .before .before .before .before .before .before .before .before .before .before .before .before .before .before .before .before .before .before .before .before .before .before .args .group .now) (c .before .before .before .before .before .before .before .before .before .before .before .before .before .before .before .before .before .before .before .before .before .before .before .before .before .before .args .water .now) (c .before .before .before .before .before .before .before .before .before .before .before .before .before .before .before .before .before .before .before .before .before .before .before .before .before .before .pre) _ _ _ _ _
-    (c .before .before .before .before .before .before .before .before .before .before .before .before .before .before .before .before .before .before .copy .ensures)
-    (c .before .before .before .before .before .before .before .before .before .before .before .before .before .before .column .ensures)
-    (c .before .before .before .before .before .before .before .before .before .before .column2 .ensures)
-    (c .before .before .before .before .before .before .groups .ensures)
-    (c .before .before .column3 .ensures)
+returns c =
+    let at-column3 = c .before .before in
+    let at-groups = at-column3 .before .before .before .before in
+    let at-column2 = at-groups .before .before .before .before in
+    let at-column = at-column2 .before .before .before .before in
+    let at-copy = at-column .before .before .before .before in
+    let start = at-copy .before .before .before .before .before .before .before .before in
+    let a = start .args in
+    laid (a .numbers .now) (a .covers .now) (a .direction .now) (a .cover .now) (a .group .now) (a .water .now) (start .pre) _ _ _ _ _
+    (at-copy .copy .ensures)
+    (at-column .column .ensures)
+    (at-column2 .column2 .ensures)
+    (at-groups .groups .ensures)
+    (at-column3 .column3 .ensures)
 
 pub lay-spec : {M : Type 1} → statement M
 lay-spec =

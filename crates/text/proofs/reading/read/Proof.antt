@@ -31,9 +31,16 @@ enum-told : tie.Need-enum-told Inv-loop μ-loop
 enum-told c = search needs
 
 returns : tie.Need-returns Inv-loop μ-loop
-returns c = bad-end (c .before .before .before .before .before .before .before .before .args .input .now) (c .before .before .before .before .before .before .before .before .args .numbers .now)
-    (c .before .before .before .before .before .before .loop .numbers) (c .before .before .before .before .before .before .loop .count) (c .before .before .before .before .before .before .loop .begun) (c .before .before .before .before .before .before .loop .i) _ _ _
-    (c .before .before .before .before .before .before .before .before .pre) (c .before .before .before .before .before .loop-test .taken) (c .before .before .before .before .byte-at .ensures) (c .before .before .before .before .before .before .loop .inv .1) (c .before .before .take .ensures) (c .enum-told .given .1)
+returns c =
+    let at-take = c .before .before in
+    let at-byte-at = at-take .before .before in
+    let at-loop-test = at-byte-at .before in
+    let at-loop = at-loop-test .before in
+    let start = at-loop .before .before in
+    let a = start .args in
+    bad-end (a .input .now) (a .numbers .now)
+    (at-loop .loop .numbers) (at-loop .loop .count) (at-loop .loop .begun) (at-loop .loop .i) _ _ _
+    (start .pre) (at-loop-test .loop-test .taken) (at-byte-at .byte-at .ensures) (at-loop .loop .inv .1) (at-take .take .ensures) (c .enum-told .given .1)
 
 add-i : tie.Need-add-i Inv-loop μ-loop
 add-i c = search needs
@@ -42,15 +49,25 @@ loop-less : tie.Need-loop-less Inv-loop μ-loop
 loop-less c = search needs
 
 loop-again : tie.Need-loop-again Inv-loop μ-loop
-loop-again c = (
-  omega arith,
-  next-byte (c .before .before .before .before .before .before .before .before .before .args .input .now) (c .before .before .before .before .before .before .before .before .before .args .numbers .now)
-      (c .before .before .before .before .before .before .before .loop .numbers) (c .before .before .before .before .before .before .before .loop .count) (c .before .before .before .before .before .before .before .loop .begun) (c .before .before .before .before .before .before .before .loop .i) _ _ _ _ _
-      (c .before .before .before .before .before .before .loop-test .taken) (c .before .before .before .before .before .byte-at .ensures) (c .before .before .before .before .before .before .before .loop .inv .1) (c .before .before .before .take .ensures) (c .before .next .given .1),
-)
+loop-again c =
+    let at-next = c .before in
+    let at-take = at-next .before .before in
+    let at-byte-at = at-take .before .before in
+    let at-loop-test = at-byte-at .before in
+    let at-loop = at-loop-test .before in
+    let a = at-loop .before .before .args in (
+      omega arith,
+      next-byte (a .input .now) (a .numbers .now)
+          (at-loop .loop .numbers) (at-loop .loop .count) (at-loop .loop .begun) (at-loop .loop .i) _ _ _ _ _
+          (at-loop-test .loop-test .taken) (at-byte-at .byte-at .ensures) (at-loop .loop .inv .1) (at-take .take .ensures) (at-next .next .given .1),
+    )
 
 returns-2 : tie.Need-returns-2 Inv-loop μ-loop
-returns-2 c = good-end (c .before .before .before .args .input .now) (c .before .before .before .args .numbers .now) (c .before .loop .numbers) (c .before .loop .count) (c .before .loop .begun) (c .before .loop .i) (c .before .before .before .pre) (c .before .loop .inv .0) (c .loop-test .left) (c .before .loop .inv .1)
+returns-2 c =
+    let at-loop = c .before in
+    let start = at-loop .before .before in
+    let a = start .args in
+    good-end (a .input .now) (a .numbers .now) (at-loop .loop .numbers) (at-loop .loop .count) (at-loop .loop .begun) (at-loop .loop .i) (start .pre) (at-loop .loop .inv .0) (c .loop-test .left) (at-loop .loop .inv .1)
 
 pub read-spec : {M : Type 1} → statement M
 read-spec =

@@ -34,8 +34,12 @@ mul-numbers : tie.Need-mul-numbers
 mul-numbers c = search needs
 
 element-write-numbers : tie.Need-element-write-numbers
-element-write-numbers c = let p = c .before .before .before .before .before .before .pre .1 in
-    omega (arith, number-weighs _ _ (sym (c .before .before .before .end-of .ensures) ∙ c .before .code .given .1))
+element-write-numbers c =
+    let at-code = c .before in
+    let at-end-of = at-code .before .before in
+    let start = at-end-of .before .before .before in
+    let p = start .pre .1 in
+    omega (arith, number-weighs _ _ (sym (at-end-of .end-of .ensures) ∙ at-code .code .given .1))
 
 add-t12 : tie.Need-add-t12
 add-t12 c = search needs
@@ -45,20 +49,36 @@ enum-told-2 c = search needs
 
 returns-2 : tie.Need-returns-2
 unfolding ending storing
-returns-2 c = let e : isBlank (c .before .before .before .before .before .args .b) ≡ true = sym (c .before .before .before .before .blank .ensures) ∙ not-false _ (c .before .before .before .if1 .left) in
-    let n = sym (c .before .before .end-of .ensures) ∙ c .enum-told .given .1 in
+returns-2 c =
+    let at-end-of = c .before .before in
+    let at-if1 = at-end-of .before in
+    let at-blank = at-if1 .before in
+    let a = at-blank .before .args in
+    let e : isBlank (a .b) ≡ true = sym (at-blank .blank .ensures) ∙ not-false _ (at-if1 .if1 .left) in
+    let n = sym (at-end-of .end-of .ensures) ∙ c .enum-told .given .1 in
     record { result = simp (e, n); numbers = simp (e, n) }
 
 returns-3 : tie.Need-returns-3
 unfolding ending storing
-returns-3 c = let e : isBlank (c .before .before .before .before .before .before .args .b) ≡ true = sym (c .before .before .before .before .before .blank .ensures) ∙ not-false _ (c .before .before .before .before .if1 .left) in
-    let n = sym (c .before .before .before .end-of .ensures) ∙ c .before .code .given .1 in
+returns-3 c =
+    let at-code = c .before in
+    let at-end-of = at-code .before .before in
+    let at-if1 = at-end-of .before in
+    let at-blank = at-if1 .before in
+    let a = at-blank .before .args in
+    let e : isBlank (a .b) ≡ true = sym (at-blank .blank .ensures) ∙ not-false _ (at-if1 .if1 .left) in
+    let n = sym (at-end-of .end-of .ensures) ∙ at-code .code .given .1 in
     record { result = simp (e, n); numbers = simp (e, n) }
 
 returns-4 : tie.Need-returns-4
 unfolding ending storing
-returns-4 c = let e : isBlank (c .before .before .before .before .before .args .b) ≡ true = sym (c .before .before .before .before .blank .ensures) ∙ not-false _ (c .before .before .before .if1 .left) in
-    let n = sym (c .before .before .end-of .ensures) ∙ c .enum-told2 .given .1 in
+returns-4 c =
+    let at-end-of = c .before .before in
+    let at-if1 = at-end-of .before in
+    let at-blank = at-if1 .before in
+    let a = at-blank .before .args in
+    let e : isBlank (a .b) ≡ true = sym (at-blank .blank .ensures) ∙ not-false _ (at-if1 .if1 .left) in
+    let n = sym (at-end-of .end-of .ensures) ∙ c .enum-told2 .given .1 in
     record { result = simp (e, n); numbers = simp (e, n) }
 
 pub take-spec : {M : Type 1} → statement M

@@ -25,13 +25,23 @@ grid-fits-requires : tie.Need-grid-fits-requires
 grid-fits-requires c κs = search needs
 
 returns-2 : tie.Need-returns-2
-returns-2 c = no-grid (c .before .before .before .before .before .before .args .numbers .now) (c .before .before .before .before .if1 .left) (sym (c .before .grid-fits .ensures) ∙ not-true _ (c .if2 .taken))
+returns-2 c =
+    let at-grid-fits = c .before in
+    let at-if1 = at-grid-fits .before .before .before in
+    let a = at-if1 .before .before .args in
+    no-grid (a .numbers .now) (at-if1 .if1 .left) (sym (at-grid-fits .grid-fits .ensures) ∙ not-true _ (c .if2 .taken))
 
 wide-requires-2 : tie.Need-wide-requires-2
 wide-requires-2 c κs = search needs
 
 returns-3 : tie.Need-returns-3
-returns-3 c = ap (Refused 11) (c .wide2 .ensures) ∙ no-covers (c .before .before .before .before .before .before .before .before .args .numbers .now) (c .before .before .before .before .before .before .if1 .left) (sym (c .before .before .before .grid-fits .ensures) ∙ not-false _ (c .before .before .if2 .left)) (c .before .if3 .taken)
+returns-3 c =
+    let at-if3 = c .before in
+    let at-if2 = at-if3 .before in
+    let at-grid-fits = at-if2 .before in
+    let at-if1 = at-grid-fits .before .before .before in
+    let a = at-if1 .before .before .args in
+    ap (Refused 11) (c .wide2 .ensures) ∙ no-covers (a .numbers .now) (at-if1 .if1 .left) (sym (at-grid-fits .grid-fits .ensures) ∙ not-false _ (at-if2 .if2 .left)) (at-if3 .if3 .taken)
 
 shared-slice-read-covers : tie.Need-shared-slice-read-covers
 shared-slice-read-covers c = search needs
@@ -40,10 +50,21 @@ covers-fit-requires : tie.Need-covers-fit-requires
 covers-fit-requires c κs = search needs
 
 returns-4 : tie.Need-returns-4
-returns-4 c = bad-count (c .before .before .before .before .before .before .before .before .before .before .args .numbers .now) (c .before .before .before .before .before .before .before .before .if1 .left) (sym (c .before .before .before .before .before .grid-fits .ensures) ∙ not-false _ (c .before .before .before .before .if2 .left)) (c .before .before .before .if3 .left) (sym (c .before .covers-fit .ensures) ∙ not-true _ (c .if4 .taken))
+returns-4 c =
+    let at-covers-fit = c .before in
+    let at-if3 = at-covers-fit .before .before in
+    let at-if2 = at-if3 .before in
+    let at-grid-fits = at-if2 .before in
+    let at-if1 = at-grid-fits .before .before .before in
+    let a = at-if1 .before .before .args in
+    bad-count (a .numbers .now) (at-if1 .if1 .left) (sym (at-grid-fits .grid-fits .ensures) ∙ not-false _ (at-if2 .if2 .left)) (at-if3 .if3 .left) (sym (at-covers-fit .covers-fit .ensures) ∙ not-true _ (c .if4 .taken))
 
 mul-place : tie.Need-mul-place
-mul-place c = omega (arith, few-cells (c .before .before .before .before .before .before .before .before .before .before .args .numbers .now) (sym (c .before .before .before .before .before .grid-fits .ensures) ∙ not-false _ (c .before .before .before .before .if2 .left)))
+mul-place c =
+    let at-if2 = c .before .before .before .before in
+    let at-grid-fits = at-if2 .before in
+    let a = at-grid-fits .before .before .before .before .before .args in
+    omega (arith, few-cells (a .numbers .now) (sym (at-grid-fits .grid-fits .ensures) ∙ not-false _ (at-if2 .if2 .left)))
 
 place-requires : tie.Need-place-requires
 place-requires c κs = search needs
@@ -54,12 +75,18 @@ place-requires-2 c κs = search needs
 -- all that is needed is little
 needed-small : (c : tie.After-place2) → 5 + 16 * c .place2 .result + 4 * c .before .place .result ≤ 17413
 needed-small c =
+    let at-place = c .before in
+    let at-if4 = at-place .before in
+    let at-covers-fit = at-if4 .before in
+    let at-if2 = at-covers-fit .before .before .before in
+    let at-grid-fits = at-if2 .before in
+    let a = at-grid-fits .before .before .before .before .before .args in
     omega (
       arith,
       c .place2 .ensures,
-      c .before .place .ensures,
-      few-cells (c .before .before .before .before .before .before .before .before .before .before .before .before .args .numbers .now) (sym (c .before .before .before .before .before .before .before .grid-fits .ensures) ∙ not-false _ (c .before .before .before .before .before .before .if2 .left)),
-      few-covers (c .before .before .before .before .before .before .before .before .before .before .before .before .args .numbers .now) (sym (c .before .before .before .covers-fit .ensures) ∙ not-false _ (c .before .before .if4 .left)),
+      at-place .place .ensures,
+      few-cells (a .numbers .now) (sym (at-grid-fits .grid-fits .ensures) ∙ not-false _ (at-if2 .if2 .left)),
+      few-covers (a .numbers .now) (sym (at-covers-fit .covers-fit .ensures) ∙ not-false _ (at-if4 .if4 .left)),
     )
 
 mul-complete : tie.Need-mul-complete
@@ -81,14 +108,37 @@ wide-requires-3 : tie.Need-wide-requires-3
 wide-requires-3 c κs = search needs
 
 returns-5 : tie.Need-returns-5
-returns-5 c = ap (Refused 11) (c .wide3 .ensures)
-    ∙ cut-off (c .before .before .before .before .before .before .before .before .before .before .before .before .before .before .before .args .numbers .now) (c .before .before .before .before .before .before .before .before .before .before .before .before .before .if1 .left) (sym (c .before .before .before .before .before .before .before .before .before .before .grid-fits .ensures) ∙ not-false _ (c .before .before .before .before .before .before .before .before .before .if2 .left)) (c .before .before .before .before .before .before .before .before .if3 .left) (sym (c .before .before .before .before .before .before .covers-fit .ensures) ∙ not-false _ (c .before .before .before .before .before .if4 .left))
-    (rw (c .before .before .before .before .place .ensures, c .before .before .before .place2 .ensures) at (sym (c .before .before .complete .ensures) ∙ not-true _ (c .before .if5 .taken)))
+returns-5 c =
+    let at-if5 = c .before in
+    let at-complete = at-if5 .before in
+    let at-place2 = at-complete .before in
+    let at-place = at-place2 .before in
+    let at-if4 = at-place .before in
+    let at-covers-fit = at-if4 .before in
+    let at-if3 = at-covers-fit .before .before in
+    let at-if2 = at-if3 .before in
+    let at-grid-fits = at-if2 .before in
+    let at-if1 = at-grid-fits .before .before .before in
+    let a = at-if1 .before .before .args in
+    ap (Refused 11) (c .wide3 .ensures)
+    ∙ cut-off (a .numbers .now) (at-if1 .if1 .left) (sym (at-grid-fits .grid-fits .ensures) ∙ not-false _ (at-if2 .if2 .left)) (at-if3 .if3 .left) (sym (at-covers-fit .covers-fit .ensures) ∙ not-false _ (at-if4 .if4 .left))
+    (rw (at-place .place .ensures, at-place2 .place2 .ensures) at (sym (at-complete .complete .ensures) ∙ not-true _ (at-if5 .if5 .taken)))
 
 returns-6 : tie.Need-returns-6
-returns-6 c = ap Ready (c .before .before .before .place .ensures)
-    ∙ is-ready (c .before .before .before .before .before .before .before .before .before .before .before .before .before .before .args .numbers .now) (c .before .before .before .before .before .before .before .before .before .before .before .before .if1 .left) (sym (c .before .before .before .before .before .before .before .before .before .grid-fits .ensures) ∙ not-false _ (c .before .before .before .before .before .before .before .before .if2 .left)) (c .before .before .before .before .before .before .before .if3 .left) (sym (c .before .before .before .before .before .covers-fit .ensures) ∙ not-false _ (c .before .before .before .before .if4 .left))
-    (rw (c .before .before .before .place .ensures, c .before .before .place2 .ensures) at (sym (c .before .complete .ensures) ∙ not-false _ (c .if5 .left)))
+returns-6 c =
+    let at-complete = c .before in
+    let at-place2 = at-complete .before in
+    let at-place = at-place2 .before in
+    let at-if4 = at-place .before in
+    let at-covers-fit = at-if4 .before in
+    let at-if3 = at-covers-fit .before .before in
+    let at-if2 = at-if3 .before in
+    let at-grid-fits = at-if2 .before in
+    let at-if1 = at-grid-fits .before .before .before in
+    let a = at-if1 .before .before .args in
+    ap Ready (at-place .place .ensures)
+    ∙ is-ready (a .numbers .now) (at-if1 .if1 .left) (sym (at-grid-fits .grid-fits .ensures) ∙ not-false _ (at-if2 .if2 .left)) (at-if3 .if3 .left) (sym (at-covers-fit .covers-fit .ensures) ∙ not-false _ (at-if4 .if4 .left))
+    (rw (at-place .place .ensures, at-place2 .place2 .ensures) at (sym (at-complete .complete .ensures) ∙ not-false _ (c .if5 .left)))
 
 pub screen-spec : {M : Type 1} → statement M
 screen-spec =

@@ -35,7 +35,11 @@ loop-less : tie.Need-loop-less Inv-loop μ-loop
 loop-less c = search needs
 
 loop-again : tie.Need-loop-again Inv-loop μ-loop
-loop-again c = (search needs, simp length-set (c .before .before .loop .inv .1), word-next _ (c .before .before .before .args .bytes .now) (c .before .before .loop .buffer) _ _ (c .before .loop-test .taken) (c .before .before .loop .inv .2))
+loop-again c =
+    let at-loop-test = c .before in
+    let at-loop = at-loop-test .before in
+    let a = at-loop .before .args in
+    (search needs, simp length-set (at-loop .loop .inv .1), word-next _ (a .bytes .now) (at-loop .loop .buffer) _ _ (at-loop-test .loop-test .taken) (at-loop .loop .inv .2))
 
 add-result : tie.Need-add-result Inv-loop μ-loop
 add-result c = search needs
@@ -44,10 +48,13 @@ same-length : tie.Need-same-length Inv-loop μ-loop
 same-length c = c .before .loop .inv .1
 
 returns : tie.Need-returns Inv-loop μ-loop
-returns c = let e : c .before .loop .i ≡ length (c .before .before .args .bytes .now) = omega arith in
+returns c =
+    let at-loop = c .before in
+    let a = at-loop .before .args in
+    let e : at-loop .loop .i ≡ length (a .bytes .now) = omega arith in
     record {
-      buffer = word-end _ (c .before .before .args .bytes .now) (c .before .loop .buffer) _ _ e (c .before .loop .inv .2);
-      end = ap (_+_ (c .before .before .args .at)) e;
+      buffer = word-end _ (a .bytes .now) (at-loop .loop .buffer) _ _ e (at-loop .loop .inv .2);
+      end = ap (_+_ (a .at)) e;
       short = le-refl _;
     }
 
