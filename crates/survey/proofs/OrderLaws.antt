@@ -1,12 +1,12 @@
--- Why peeling gives an order upslope first, or what is left over lies on rings. A step takes one cell c off the queue's head: if c leads to a
--- cell, that one waits for one cell less, and joins the queue when it waits for none. The cell to which c leads was waiting, since
--- with c more of the cells that lead there are taken; and when it waits for none, the cells taken are all that lead there, or one
--- more would sum to too much. At the end each cell that waits is fed by another that waits, so they lie on rings;
--- a cell of the queue does not, since what leads to it stands before it in the queue, and what leads there before that.
+-- Why peeling gives an order upslope first, or what is left over lies on rings. A step takes one cell c of the queue, no matter which: if c leads
+-- to a cell, that one waits for one cell less, and joins the queue when it waits for none. The cell to which c leads was waiting, since c is
+-- one of the rest that lead there; and when it waits for none, no cell of the rest leads there, so all that do stand in the queue before it.
+-- At the end each cell that waits is fed by another that waits, so they lie on rings; a cell of the queue does not, since what leads to it
+-- stands before it in the queue, and what leads there before that.
 use mathlib.Core.Path.{_≡_, refl, sym, ap, _∙_, subst}
-use mathlib.Core.Bool.{true, false, _&&_}
+use mathlib.Core.Bool.{Bool, true, false, not, _&&_, true≢false}
 use mathlib.Core.Logic.{⊎-elim}
-use Prim.Native.Nat.{ℕ, zero, suc, _+_, _≤_, _<_, zero-le}
+use Prim.Native.Nat.{ℕ, zero, suc, _+_, _≤_, _<_}
 use native.Mathlib.Nat.{eq-zero-or-pos, le-of-suc-le-suc, le-step, lt-suc-self, lt-trans, lt-of-lt-of-le, eq-or-lt-of-le, le-antisymm}
 use native.Mathlib.Omega.{arith, by-contra}
 use lib.Dec.{eqb, ltb}
@@ -15,11 +15,11 @@ use Rattle.theory.specs.Sums.{sum, given}
 use Rattle.theory.specs.Lowest.{Found, at, nowhere, lowest, some}
 use Rattle.theory.specs.Ways.{walk, onRing, OneWay, UpslopeFirst}
 use Rattle.theory.proofs.Cases.{byCases, and-left, and-right}
-use Rattle.theory.proofs.SumLaws.{sum-cong, sum-same, sum-part, sum-injection, sum-cover}
+use Rattle.theory.proofs.SumLaws.{sum-cong, sum-add, sum-same, sum-none, sum-part, sum-pick, sum-cover, given-most}
 use Rattle.theory.proofs.LowestLaws.{some-true, some-false, at-lowest}
 use Rattle.theory.proofs.WayLaws.{ring-back, fed-on-ring}
 use Rattle.survey.specs.Peeling.{leading, Gathered, Queue}
-use Rattle.theory.proofs.SumsAlong.{sum-extend, sum-support}
+use Rattle.theory.proofs.SumsAlong.{sum-extend}
 
 pub leads : (next : ℕ → ℕ) (i j : ℕ) → next j ≡ i → leading next i j ≡ 1
 unfolding leading given
@@ -29,10 +29,6 @@ pub elsewhere : (next : ℕ → ℕ) (i j : ℕ) → (next j ≡ i → ⊥) → 
 unfolding leading given
 elsewhere next i j e = rw (ne-eqb (next j) i e)
 
-leads-there : (next : ℕ → ℕ) (i j : ℕ) → 0 < leading next i j → next j ≡ i
-leads-there next i j h =
-    byCases (eqb (next j) i) (λ e. eqb-true (next j) i e) (λ e. absurd (omega (arith, elsewhere next i j (eqb-false (next j) i e))))
-
 pub one-more : (m : ℕ) (f : ℕ → ℕ) → sum (suc m) f ≡ sum m f + f m
 unfolding sum
 one-more m f = refl
@@ -41,19 +37,48 @@ pub no-places : (f : ℕ → ℕ) → sum 0 f ≡ 0
 unfolding sum
 no-places f = refl
 
+-- the rest without c
+unfoldable pub without : (ℕ → Bool) → ℕ → ℕ → Bool
+without rest c j = not (eqb c j) && rest j
+
+module _ (rest : ℕ → Bool) (c : ℕ) where
+  pub without-it : (j : ℕ) → c ≡ j → without rest c j ≡ false
+  unfolding without
+  without-it j e = rw (eq-eqb c j e)
+
+  pub without-other : (j : ℕ) → (c ≡ j → ⊥) → without rest c j ≡ rest j
+  unfolding without
+  without-other j e = rw (ne-eqb c j e)
+
+  split : rest c ≡ true → (j x : ℕ) → given (rest j) x ≡ given (without rest c j) x + given (eqb c j) x
+  unfolding given
+  split r j x =
+      byCases (eqb c j)
+      (λ p. rw (without-it j (eqb-true c j p), p, subst (λ (i : ℕ). rest i ≡ true) (eqb-true c j p) r) (omega arith))
+      (λ p. rw (without-other j (eqb-false c j p), p) (omega arith))
+
+given-true : (b : Bool) (x : ℕ) → b ≡ true → given b x ≡ x
+unfolding given
+given-true b x e = rw e
+
+given-false : (b : Bool) (x : ℕ) → b ≡ false → given b x ≡ 0
+unfolding given
+given-false b x e = rw e
+
 module _ {n : ℕ} {next waits queued : ℕ → ℕ} where
   -- the cells to which none leads are a queue of which none is taken
   pub start : {counts : ℕ → ℕ} {tail : ℕ} → Gathered n counts waits queued n tail
-      → ((i : ℕ) → i < n → counts i ≡ sum n (leading next i)) → Queue n next waits queued 0 tail
+      → ((i : ℕ) → i < n → counts i ≡ sum n (leading next i)) → Queue n next waits queued (λ j. true) tail
+  unfolding given
   start {counts} {tail} g each =
       record {
-        behind = zero-le;
         short = g .short;
         placed = g .placed;
         once = λ s t a b e. le-antisymm (by-contra s t (λ l. omega (arith, g .rising t s l a))) (by-contra t s (λ l. omega (arith, g .rising s t l b)));
         free = g .free;
         all = g .all;
-        left = λ i h. omega (arith, g .left i h, each i h, no-places (λ t. leading next i (queued t)));
+        left = λ i h. g .left i h ∙ each i h;
+        taken = λ j h e. absurd (true≢false e);
         earlier = λ t j h l e.
             let i = queued t in
             absurd (omega (
@@ -66,7 +91,7 @@ module _ {n : ℕ} {next waits queued : ℕ → ℕ} where
             ));
       }
 
-  module _ {head tail : ℕ} (q : Queue n next waits queued head tail) where
+  module _ {rest : ℕ → Bool} {tail : ℕ} (q : Queue n next waits queued rest tail) where
     -- a cell that waits has room in the queue
     pub room : (j : ℕ) → j < n → 0 < waits j → tail < n
     room j h w =
@@ -77,127 +102,135 @@ module _ {n : ℕ} {next waits queued : ℕ → ℕ} where
           sum-same n 1,
         )
 
-    module _ (h : head < tail) where
-      up : (t : ℕ) → t < suc head → t < tail
-      up t l = omega arith
-
-      -- the cell to which the head leads is waiting for it
-      pub waiting : next (queued head) < n → 0 < waits (next (queued head))
+    -- c is taken
+    module _ (c : ℕ) (h : c < n) (ready : rest c ≡ true) (none : waits c ≡ 0) where
+      -- the cell to which it leads is waiting for it
+      pub waiting : next c < n → 0 < waits (next c)
       waiting l =
-          let j = next (queued head) in
           omega (
             arith,
-            q .left j l,
-            leads next j (queued head) refl,
-            one-more head (λ t. leading next j (queued t)),
-            sum-injection (suc head) n queued (leading next j) (λ t a. q .placed t (up t a)) (λ s t a b. q .once s t (up s a) (up t b)),
+            q .left (next c) l,
+            leads next (next c) c refl,
+            given-true (rest c) (leading next (next c) c) ready,
+            sum-part n (λ j. given (rest j) (leading next (next c) j)) c h,
           )
 
-      -- the head leads outside
-      pub left-behind : n ≤ next (queued head) → Queue n next waits queued (suc head) tail
+      pub new : next c < n → (t : ℕ) → t < tail → queued t ≡ next c → ⊥
+      new l t a e = omega (arith, waiting l, ap waits e, q .free t a)
+
+      -- with one more cell taken
+      one-less : (i : ℕ) → sum n (λ j. given (rest j) (leading next i j)) ≡ sum n (λ j. given (without rest c j) (leading next i j)) + leading next i c
+      one-less i =
+          omega (
+            arith,
+            sum-cong n (λ j. given (rest j) (leading next i j)) _ (λ j _. split rest c ready j (leading next i j)),
+            sum-add n (λ j. given (without rest c j) (leading next i j)) (λ j. given (eqb c j) (leading next i j)),
+            sum-pick n (leading next i) c h,
+          )
+
+      pub shut : (j : ℕ) → j < n → without rest c j ≡ false → waits j ≡ 0
+      shut j l e =
+          byCases (eqb c j) (λ p. subst (λ (i : ℕ). waits i ≡ 0) (eqb-true c j p) none)
+          (λ p. q .taken j l (sym (without-other rest c j (eqb-false c j p)) ∙ e))
+
+      -- it leads outside
+      pub left-behind : n ≤ next c → Queue n next waits queued (without rest c) tail
       left-behind l =
           record {
-            behind = h;
             short = q .short;
             placed = q .placed;
             once = q .once;
             free = q .free;
             all = q .all;
-            left = λ i a. omega (
-              arith,
-              q .left i a,
-              one-more head (λ t. leading next i (queued t)),
-              elsewhere next i (queued head) (λ e. omega arith),
-            );
-            earlier = λ t j a b e. let (u, c, d, f) = q .earlier t j a b e in (u, c, le-step d, f);
+            left = λ i a. omega (arith, q .left i a, one-less i, elsewhere next i c (λ e. omega arith));
+            taken = shut;
+            earlier = q .earlier;
           }
 
-      module _ {fewer : ℕ → ℕ} (l : next (queued head) < n) (one : fewer (next (queued head)) + 1 ≡ waits (next (queued head)))
-          (rest : (i : ℕ) → (next (queued head) ≡ i → ⊥) → fewer i ≡ waits i) where
-        fewer-left : (i : ℕ) → i < n → fewer i + sum (suc head) (λ t. leading next i (queued t)) ≡ sum n (leading next i)
+      module _ {fewer : ℕ → ℕ} (l : next c < n) (one : fewer (next c) + 1 ≡ waits (next c))
+          (others : (i : ℕ) → (next c ≡ i → ⊥) → fewer i ≡ waits i) where
+        fewer-left : (i : ℕ) → i < n → fewer i ≡ sum n (λ j. given (without rest c j) (leading next i j))
         fewer-left i a =
-            byCases (eqb (next (queued head)) i)
-            (λ e. let same = eqb-true (next (queued head)) i e in
-            omega (arith, q .left i a, one-more head (λ t. leading next i (queued t)), leads next i (queued head) same, one, ap fewer same, ap waits same))
-            (λ e. let other = eqb-false (next (queued head)) i e in
-            omega (arith, q .left i a, one-more head (λ t. leading next i (queued t)), elsewhere next i (queued head) other, rest i other))
+            byCases (eqb (next c) i)
+            (λ e. let same = eqb-true (next c) i e in
+            omega (arith, q .left i a, one-less i, leads next i c same, one, ap fewer same, ap waits same))
+            (λ e. let other = eqb-false (next c) i e in
+            omega (arith, q .left i a, one-less i, elsewhere next i c other, others i other))
 
-        fewer-free : (t : ℕ) → t < tail → fewer (queued t) ≡ 0
-        fewer-free t a = rest (queued t) (λ e. omega (arith, waiting l, ap waits e, q .free t a)) ∙ q .free t a
+        none-fewer : (i : ℕ) → waits i ≡ 0 → fewer i ≡ 0
+        none-fewer i z = others i (λ e. omega (arith, waiting l, ap waits e)) ∙ z
 
-        -- the head leads to a cell that waits for others too
-        pub still-waiting : 0 < fewer (next (queued head)) → Queue n next fewer queued (suc head) tail
+        -- it leads to a cell that waits for others too
+        pub still-waiting : 0 < fewer (next c) → Queue n next fewer queued (without rest c) tail
         still-waiting w =
             record {
-              behind = h;
               short = q .short;
               placed = q .placed;
               once = q .once;
-              free = fewer-free;
-              all = λ i a e. q .all i a (sym (rest i (λ s. omega (arith, ap fewer s))) ∙ e);
+              free = λ t a. none-fewer (queued t) (q .free t a);
+              all = λ i a e. q .all i a (sym (others i (λ s. omega (arith, ap fewer s))) ∙ e);
               left = fewer-left;
-              earlier = λ t j a b e. let (u, c, d, f) = q .earlier t j a b e in (u, c, le-step d, f);
+              taken = λ j a e. none-fewer j (shut j a e);
+              earlier = q .earlier;
             }
 
         -- all that lead to it are taken
-        all-taken : fewer (next (queued head)) ≡ 0 → (j : ℕ) → j < n → next j ≡ next (queued head) → (u : ℕ) × (u < suc head) × (queued u ≡ j)
+        all-taken : fewer (next c) ≡ 0 → (j : ℕ) → j < n → next j ≡ next c → (u : ℕ) × (u < tail) × (queued u ≡ j)
         all-taken z j a e =
-            byCases (some (suc head) (λ t. eqb (queued t) j))
-            (λ p. let (u, b, s) = some-true (suc head) (λ t. eqb (queued t) j) p in (u, b, eqb-true (queued u) j s))
+            byCases (without rest c j)
             (λ p. absurd (omega (
               arith,
-              fewer-left (next (queued head)) l,
-              leads next (next (queued head)) j e,
-              sum-extend (suc head) n queued (leading next (next (queued head))) (λ t b. q .placed t (up t b))
-                  (λ s t b c. q .once s t (up s b) (up t c)) j a
-                  (λ t b s. eqb-false (queued t) j (some-false (suc head) (λ t. eqb (queued t) j) p t b) s),
+              fewer-left (next c) l,
+              leads next (next c) j e,
+              given-true (without rest c j) (leading next (next c) j) p,
+              sum-part n (λ j. given (without rest c j) (leading next (next c) j)) j a,
             )))
+            (λ p. q .all j a (shut j a p))
 
-        module _ {longer : ℕ → ℕ} (z : fewer (next (queued head)) ≡ 0) (last : longer tail ≡ next (queued head))
+        module _ {longer : ℕ → ℕ} (z : fewer (next c) ≡ 0) (last : longer tail ≡ next c)
             (before : (t : ℕ) → t < tail → longer t ≡ queued t) where
-          new : (t : ℕ) → t < tail → longer t ≡ next (queued head) → ⊥
-          new t a e = omega (arith, waiting l, ap waits (sym (before t a) ∙ e), q .free t a)
+          new-still : (t : ℕ) → t < tail → longer t ≡ next c → ⊥
+          new-still t a e = new l t a (sym (before t a) ∙ e)
 
           cases : {P : ℕ → Type 0} → ((t : ℕ) → t < tail → P t) → P tail → (t : ℕ) → t < suc tail → P t
           cases {P} old this t a = ⊎-elim (λ e. subst P (sym e) this) (old t) (eq-or-lt-of-le (le-of-suc-le-suc a))
 
           -- it waits for none, and joins the queue
-          pub joins : Queue n next fewer longer (suc head) (suc tail)
+          pub joins : Queue n next fewer longer (without rest c) (suc tail)
           joins =
               record {
-                behind = le-step h;
-                short = room (next (queued head)) l (waiting l);
+                short = room (next c) l (waiting l);
                 placed = cases (λ t a. rw (before t a) (q .placed t a)) (rw last l);
                 once = λ s t a b.
                     cases {P = λ s. longer s ≡ longer t → s ≡ t}
                     (λ s a. cases {P = λ t. longer s ≡ longer t → s ≡ t}
-                    (λ t b e. q .once s t a b (sym (before s a) ∙ e ∙ before t b)) (λ e. absurd (new s a (e ∙ last))) t b)
-                    (cases {P = λ t. longer tail ≡ longer t → tail ≡ t} (λ t b e. absurd (new t b (sym e ∙ last))) (λ e. refl) t b)
+                    (λ t b e. q .once s t a b (sym (before s a) ∙ e ∙ before t b)) (λ e. absurd (new-still s a (e ∙ last))) t b)
+                    (cases {P = λ t. longer tail ≡ longer t → tail ≡ t} (λ t b e. absurd (new-still t b (sym e ∙ last))) (λ e. refl) t b)
                     s a;
-                free = cases (λ t a. rw (before t a) (fewer-free t a)) (rw last z);
+                free = cases (λ t a. rw (before t a) (none-fewer (queued t) (q .free t a))) (rw last z);
                 all = λ i a e.
-                    byCases (eqb (next (queued head)) i)
-                    (λ s. (tail, lt-suc-self tail, last ∙ eqb-true (next (queued head)) i s))
-                    (λ s. let (t, b, f) = q .all i a (sym (rest i (eqb-false (next (queued head)) i s)) ∙ e) in (t, le-step b, before t b ∙ f));
-                left = λ i a.
-                    ap (λ (x : ℕ). fewer i + x) (sum-cong (suc head) _ _ (λ t b. ap (leading next i) (before t (up t b))))
-                    ∙ fewer-left i a;
+                    byCases (eqb (next c) i)
+                    (λ s. (tail, lt-suc-self tail, last ∙ eqb-true (next c) i s))
+                    (λ s. let (t, b, f) = q .all i a (sym (others i (eqb-false (next c) i s)) ∙ e) in (t, le-step b, before t b ∙ f));
+                left = fewer-left;
+                taken = λ j a e. none-fewer j (shut j a e);
                 earlier = λ t j a b.
-                    cases {P = λ t. next j ≡ longer t → (u : ℕ) × (u < t) × (u < suc head) × (longer u ≡ j)}
-                    (λ t a e. let (u, c, d, f) = q .earlier t j a b (e ∙ before t a) in (u, c, le-step d, before u (lt-trans c a) ∙ f))
-                    (λ e. let (u, d, f) = all-taken z j b (e ∙ last) in (u, up u d, d, before u (up u d) ∙ f))
+                    cases {P = λ t. next j ≡ longer t → (u : ℕ) × (u < t) × (longer u ≡ j)}
+                    (λ t a e. let (u, d, f) = q .earlier t j a b (e ∙ before t a) in (u, d, before u (lt-trans d a) ∙ f))
+                    (λ e. let (u, d, f) = all-taken z j b (e ∙ last) in (u, d, before u d ∙ f))
                     t a;
               }
 
 -- all of the queue is taken
-module _ {n : ℕ} {next waits queued : ℕ → ℕ} {tail : ℕ} (q : Queue n next waits queued tail tail) (out : OneWay n next) where
+module _ {n : ℕ} {next waits queued : ℕ → ℕ} {rest : ℕ → Bool} {tail : ℕ} (q : Queue n next waits queued rest tail)
+    (gone : (t : ℕ) → t < tail → rest (queued t) ≡ false) (out : OneWay n next) where
   upslope : (k t x : ℕ) → t < tail → x < n → walk next (suc k) x ≡ queued t → (u : ℕ) × (u < t) × (queued u ≡ x)
   unfolding walk
-  upslope zero t x a b e = let (u, c, _, f) = q .earlier t x a b e in (u, c, f)
+  upslope zero t x a b e = q .earlier t x a b e
   upslope (suc k) t x a b e =
       let y = walk next (suc k) x in
       let inside : y < n = by-contra _ _ (λ l. omega (arith, out .outside y (le-of-suc-le-suc l), q .placed t a)) in
-      let (u, c, _, f) = q .earlier t y a inside e in
+      let (u, c, f) = q .earlier t y a inside e in
       let (v, d, g) = upslope k u x (lt-trans c a) b (sym f) in
       (v, lt-trans d c, g)
 
@@ -219,12 +252,19 @@ module _ {n : ℕ} {next waits queued : ℕ → ℕ} {tail : ℕ} (q : Queue n n
       (λ e. absurd (omega (
         arith,
         q .left i h,
-        sum-support tail n queued (leading next i) (q .placed)
-            (λ j a b. q .all j a (none j (leads-there next i j b) (some-false n (λ j. eqb (next j) i && ltb 0 (waits j)) e j a))),
+        sum-none n,
+        sum-cong n _ (λ j. 0) (λ j a. nothing j a (some-false n (λ j. eqb (next j) i && ltb 0 (waits j)) e j a)),
       )))
     where
       none : (j : ℕ) → next j ≡ i → (eqb (next j) i && ltb 0 (waits j)) ≡ false → waits j ≡ 0
       none j s e = omega (arith, ltb-false 0 (waits j) (rw (eq-eqb (next j) i s) at e))
+
+      nothing : (j : ℕ) → j < n → (eqb (next j) i && ltb 0 (waits j)) ≡ false → given (rest j) (leading next i j) ≡ 0
+      nothing j a e =
+          byCases (eqb (next j) i)
+          (λ s. let (t, b, f) = q .all j a (none j (eqb-true (next j) i s) e) in
+          given-false (rest j) _ (subst (λ (x : ℕ). rest x ≡ false) f (gone t b)))
+          (λ s. omega (arith, given-most (rest j) (leading next i j), elsewhere next i j (eqb-false (next j) i s)))
 
   on-ring : (i : ℕ) → i < n → 0 < waits i → onRing n next i ≡ true
   on-ring i h w =
@@ -270,7 +310,7 @@ module _ {n : ℕ} {next waits queued : ℕ → ℕ} {tail : ℕ} (q : Queue n n
           after = λ j h l.
               let (t, a, b, c) = turn (next j) l in
               let (s, d, e, f) = turn j h in
-              let (u, x, _, y) = q .earlier t j (lt-of-lt-of-le a whole) h (sym b) in
+              let (u, x, y) = q .earlier t j (lt-of-lt-of-le a whole) h (sym b) in
               omega (arith, q .once s u (lt-of-lt-of-le d whole) (lt-trans x (lt-of-lt-of-le a whole)) (e ∙ sym y));
         }
 

@@ -1,9 +1,11 @@
 -- Peeling the cells off upslope first, in one array: entry i is 8192 × the number of cells that i still waits for, plus the cell that stands
--- at place i of the queue. The queue holds the cells that wait for none; the first `head` of them are taken.
+-- at place i of the queue. The queue holds the cells that wait for none, the sources first. From each source the peeling goes down for as long as
+-- the next cell waits for no other, and takes it as it joins the queue.
 use mathlib.Core.Path.{_≡_}
+use mathlib.Core.Bool.{Bool, false, _&&_}
 use mathlib.Core.List.{List}
-use Prim.Native.Nat.{ℕ, _+_, _*_, _/_, _%_, _≤_, _<_}
-use lib.Dec.{eqb}
+use Prim.Native.Nat.{ℕ, _*_, _/_, _%_, _≤_, _<_}
+use lib.Dec.{eqb, leb, ltb}
 use lib.ListN.{length, getD}
 use Rattle.theory.specs.Sums.{sum, given}
 
@@ -38,17 +40,17 @@ pub record Gathered (n : ℕ) (counts waits queued : ℕ → ℕ) (k tail : ℕ)
   pub all : (i : ℕ) → i < k → waits i ≡ 0 → (t : ℕ) × (t < tail) × (queued t ≡ i)
   pub left : (i : ℕ) → i < n → waits i ≡ counts i
 
--- the queue with `head` cells taken: it has just the cells that wait for none, each once; a cell waits for those that lead to it and are not
--- taken; and what leads to a cell of the queue stands before it, and is taken
-pub record Queue (n : ℕ) (next waits queued : ℕ → ℕ) (head tail : ℕ) : Type 0 where
-  pub behind : head ≤ tail
+-- the queue while the cells of `rest` are not yet taken: it has just the cells that wait for none, each once; a cell waits for those of the rest
+-- that lead to it; what is taken waits for none; and what leads to a cell of the queue stands before it
+pub record Queue (n : ℕ) (next waits queued : ℕ → ℕ) (rest : ℕ → Bool) (tail : ℕ) : Type 0 where
   pub short : tail ≤ n
   pub placed : (t : ℕ) → t < tail → queued t < n
   pub once : (s t : ℕ) → s < tail → t < tail → queued s ≡ queued t → s ≡ t
   pub free : (t : ℕ) → t < tail → waits (queued t) ≡ 0
   pub all : (i : ℕ) → i < n → waits i ≡ 0 → (t : ℕ) × (t < tail) × (queued t ≡ i)
-  pub left : (i : ℕ) → i < n → waits i + sum head (λ t. leading next i (queued t)) ≡ sum n (leading next i)
-  pub earlier : (t j : ℕ) → t < tail → j < n → next j ≡ queued t → (u : ℕ) × (u < t) × (u < head) × (queued u ≡ j)
+  pub left : (i : ℕ) → i < n → waits i ≡ sum n (λ j. given (rest j) (leading next i j))
+  pub taken : (j : ℕ) → j < n → rest j ≡ false → waits j ≡ 0
+  pub earlier : (t j : ℕ) → t < tail → j < n → next j ≡ queued t → (u : ℕ) × (u < t) × (queued u ≡ j)
 
 -- the array that holds such a queue: nothing stands past its end
 pub record GatheredIn (n : ℕ) (counts : ℕ → ℕ) (k tail : ℕ) (l : List ℕ) : Type 0 where
@@ -56,7 +58,18 @@ pub record GatheredIn (n : ℕ) (counts : ℕ → ℕ) (k tail : ℕ) (l : List 
   pub queue : Gathered n counts (waits l) (queued l) k tail
   pub blank : (t : ℕ) → tail ≤ t → t < n → queued l t ≡ 0
 
-pub record QueueIn (n : ℕ) (next : ℕ → ℕ) (head tail : ℕ) (l : List ℕ) : Type 0 where
+pub record QueueIn (n : ℕ) (next : ℕ → ℕ) (rest : ℕ → Bool) (tail : ℕ) (l : List ℕ) : Type 0 where
   pub sized : length l ≡ 4096
-  pub queue : Queue n next (waits l) (queued l) head tail
+  pub queue : Queue n next (waits l) (queued l) rest tail
   pub blank : (t : ℕ) → tail ≤ t → t < n → queued l t ≡ 0
+
+-- t is a source's place, from `head` on
+unfoldable pub ahead : ℕ → ℕ → ℕ → Bool
+ahead head sources t = leb head t && ltb t sources
+
+-- the queue with the first `head` sources taken, and each cell that joined it after the sources
+pub record PeeledIn (n : ℕ) (next : ℕ → ℕ) (head sources tail : ℕ) (l : List ℕ) : Type 0 where
+  pub rest : ℕ → Bool
+  pub kept : QueueIn n next rest tail l
+  pub behind : sources ≤ tail
+  pub still : (t : ℕ) → t < tail → rest (queued l t) ≡ ahead head sources t

@@ -1,13 +1,13 @@
 // The order of the cells, upslope first, by peeling in one array: entry i is 8192 times the number of cells that cell i still waits
 // for, plus the cell at place i of a queue of cells that wait for none. Where no ring is left over, the array ends as the order.
 ghost use mathlib.Core.Path.{_≡_};
-ghost use Prim.Native.Nat.{suc, _≤_, _<_};
+ghost use Prim.Native.Nat.{_≤_};
 ghost use lib.Dec.{ltb};
 ghost use lib.ListN.{replicate};
 ghost use Rattle.theory.specs.Lowest.{lowest};
 ghost use Rattle.survey.specs.Routes.{nextIn, WaysIn, OrderOrRing};
 ghost use Rattle.records.specs.Places.{placeIn};
-ghost use Rattle.survey.specs.Peeling.{waits, Counted, Blank, GatheredIn, QueueIn};
+ghost use Rattle.survey.specs.Peeling.{waits, Counted, Blank, GatheredIn, PeeledIn};
 use records::Place;
 use records::place;
 
@@ -46,35 +46,31 @@ fn sources(n: usize, order: &mut [u32; 4096]) -> usize
     tail
 }
 
-// Takes the cell at the queue's head: the one that it leads to waits for one cell less, and joins the queue when it waits for none.
-fn visit(n: usize, ways: &[u32; 4096], order: &mut [u32; 4096], head: usize, tail: usize) -> usize
-    requires { ⌜ (WaysIn n (now ways)) × (head < tail) × (QueueIn n (nextIn (now ways)) head tail (now order)) ⌝ }
-    ensures { λ r. ⌜ QueueIn n (nextIn (now (ways .entry))) (suc head) r (now (order .exit)) ⌝ }
-{
-    let cell = place(order[head] % ONE);
-    let way = ways[cell];
-    let j = place(way);
-    if n <= j {
-        return tail;
-    }
-    let left = order[j] - ONE;
-    order[j] = left;
-    if ONE <= left {
-        return tail;
-    }
-    order[tail] += way;
-    tail + 1
-}
-
-// Takes the queue to its end, and says how many cells came by.
+// Takes the cells that wait for none, and says how many came by: from each source down, for as long as the next cell waits for no other. That
+// one joins the queue and is taken at once, out of a local: through the queue, each step would wait for the last one's stores.
 fn peel(n: usize, ways: &[u32; 4096], order: &mut [u32; 4096], sources: usize) -> usize
-    requires { ⌜ (WaysIn n (now ways)) × (QueueIn n (nextIn (now ways)) 0 sources (now order)) ⌝ }
-    ensures { λ r. ⌜ QueueIn n (nextIn (now (ways .entry))) r r (now (order .exit)) ⌝ }
+    requires { ⌜ (WaysIn n (now ways)) × (PeeledIn n (nextIn (now ways)) 0 sources sources (now order)) ⌝ }
+    ensures { λ r. ⌜ PeeledIn n (nextIn (now (ways .entry))) sources sources r (now (order .exit)) ⌝ }
 {
-    let mut head = 0;
     let mut tail = sources;
-    while head < tail {
-        tail = visit(n, ways, order, head, tail);
+    let mut head = 0;
+    while head < sources {
+        let mut cell = place(order[head] % ONE);
+        loop {
+            let way = ways[cell];
+            let j = place(way);
+            if n <= j {
+                break;
+            }
+            let left = order[j] - ONE;
+            order[j] = left;
+            if ONE <= left {
+                break;
+            }
+            order[tail] += way;
+            tail += 1;
+            cell = j;
+        }
         head += 1;
     }
     tail
