@@ -123,7 +123,7 @@ loop2-again c = let w = c .before .before .before .before in
     let joined : ℕ → Type 0 = λ x. InHand (s .args .n) (nextIn (s .args .ways .now)) (turn w .before .before .before .before .loop .head)
     (s .args .sources) (tail + 1) j (set less tail (getD less tail 0 + x)) in
     subst joined (w .place2 .ensures)
-    (hand-joins (turn w .loop2 .inv) (s .pre .0 .most) j (way w) (c .before .before .before .if1 .left) (c .before .if2 .left))
+    (hand-joins (turn w .loop2 .inv) (s .pre .0 .most) j (way w) (c .before .before .before .if1 .left) (omega (arith, c .before .if2 .left)))
 
 add-head : tie.Need-add-head Inv-loop2 μ-loop2 Inv-loop μ-loop
 add-head c = search needs
@@ -139,7 +139,7 @@ loop-again c = let w = c .before in
       rw add-one
           (⊎-elim
           (λ b. rw (b .1) (hand-outside p m (omega (arith, way w, b .0 .taken))))
-          (λ b. rw (b .3) (hand-still p m (w .place2 .result) (way w) (b .0 .left) (b .2 .taken)))
+          (λ b. rw (b .3) (hand-still p m (w .place2 .result) (way w) (b .0 .left) (omega (arith, b .2 .taken))))
           (c .if1 .came)),
     )
 
