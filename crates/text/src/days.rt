@@ -11,7 +11,6 @@ ghost use Rattle.text.specs.Run.{Coded, DaysReady, OneDay, Tells, mostTe
 ghost use Rattle.text.specs.Writing.{Wrote};
 ghost use Rattle.text.specs.Lines.{dayLine};
 use crate::fields::tenths;
-use crate::fields::wide;
 use crate::refusals::Spoken;
 use crate::refusals::said;
 use crate::writing::ended;
@@ -25,6 +24,7 @@ use recharge::Memory;
 use recharge::Setup;
 use recharge::TenthF;
 use recharge::Totals;
+use records::wide;
 
 // The place after what a day printed, and whether the run goes on.
 pub(crate) enum Told {

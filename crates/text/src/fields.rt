@@ -53,12 +53,6 @@ pub(crate) fn groups(numbers: &[u32], from: usize, cells: &mut [u32])
     }
 }
 
-pub(crate) fn wide(x: u32) -> u64
-    ensures { λ r. ⌜ r ≡ x ⌝ }
-{
-    x as u64
-}
-
 // A temperature, with its sign back.
 pub(crate) fn tenths(code: u32) -> i32
     requires { ⌜ code < 2000000000 ⌝ }

@@ -4,6 +4,8 @@ ghost use mathlib.Core.Path.{_≡_};
 ghost use Prim.Native.Nat.{_-_, _*_, _%_};
 ghost use lib.Dec.{leb, eqb};
 ghost use Rattle.text.specs.Program.{screen as screened};
+use records::Setup;
+use records::place;
 
 pub(crate) enum Screened {
     // A refusal's number and place.
@@ -14,17 +16,16 @@ pub(crate) enum Screened {
 
 pub(crate) const TEXT: u64 = 11;
 
-// The product of width and height can pass 32 bits, so the height is held to a quotient.
+// The season has no say in it.
 fn grid_fits(width: u32, height: u32) -> bool
     ensures { λ r. ⌜ r ≡ (leb 1 width && leb 1 height && leb (width * height) 4096) ⌝ }
 {
-    if width < 1 {
-        return false;
-    }
-    if height < 1 {
-        return false;
-    }
-    height <= 4096 / width
+    records::grid_fits(Setup {
+        width,
+        height,
+        first: 1,
+        last: 1,
+    })
 }
 
 fn covers_fit(count: u32) -> bool
@@ -50,12 +51,6 @@ pub(crate) fn wide(count: usize) -> u64
     ensures { λ r. ⌜ r ≡ count ⌝ }
 {
     count as u64
-}
-
-pub(crate) fn place(x: u32) -> usize
-    ensures { λ r. ⌜ r ≡ x ⌝ }
-{
-    x as usize
 }
 
 pub(crate) fn screen(numbers: &[u32]) -> Screened

@@ -9,9 +9,9 @@ use crate::days::days;
 use crate::fields::lay;
 use crate::refusals::Spoken;
 use crate::refusals::said;
-use crate::screening::place;
 use crate::writing::refused;
 use recharge::Setup;
+use records::place;
 
 // The fresh state, and the days from it on; or its refusal.
 fn begun(
