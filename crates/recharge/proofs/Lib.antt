@@ -7,7 +7,7 @@ pub mod LossRoom
 pub mod OwnWaterLaws
 pub mod RetentionTable
 pub mod RoutingLaws
-pub mod RuleLaws
+pub mod CoverDayLaws
 pub mod RunLaws
 pub mod SettleLaws
 pub mod SlotNumbers

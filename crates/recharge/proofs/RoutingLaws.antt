@@ -22,16 +22,21 @@ use Rattle.paper.specs.Flow.{arriving, water}
 use Rattle.paper.proofs.FlowLaws.{water-reached, water-most}
 use Rattle.paper.proofs.OutflowLaws.{outflow-most}
 use Rattle.survey.specs.Routes.{nextIn}
-use Rattle.recharge.specs.Routing.{ruled, passedBy, reaching, Routable, Routed}
+use Rattle.recharge.specs.Routing.{passedBy, passing, reaching, Routable, Routed}
 use Rattle.theory.proofs.SumsAlong.{sum-support}
 use Rattle.survey.proofs.WayArrays.{over-at}
 
-pub ruled-most : (code w : ℕ) → code ≤ 101 → ruled code w ≤ w
-unfolding ruled
-ruled-most code w h =
-    byCases (eqb code 0) (λ e. rw e zero-le)
-    (λ e. byCases (eqb code 101) (λ f. rw (e, f) (le-refl w))
-    (λ f. rw (e, f) (outflow-most code w (omega (arith, eqb-false code 101 f)))))
+pub passed-most : (code way w : ℕ) → code ≤ 101 → passedBy code way w ≤ w
+unfolding passedBy
+passed-most code way w h =
+    byCases (eqb code 101) (λ e. rw e (le-refl w))
+    (λ e. byCases (eqb way 4097) (λ f. rw (e, f) zero-le)
+    (λ f. rw (e, f) (outflow-most code w (omega (arith, eqb-false code 101 e)))))
+
+-- the code's steps: it finds the cell's slot and way first
+pub passed-as : (codes slots ways : List ℕ) (cell slot way w out : ℕ) → slot ≡ getD slots cell 0 → way ≡ getD ways cell 4097
+    → out ≡ passedBy (getD codes slot 0) way w → out ≡ passing codes slots ways cell w
+passed-as codes slots ways cell slot way w out s d e = rw (e, s, d)
 
 module _ (n : ℕ) (next : ℕ → ℕ) (passed : ℕ → ℕ → ℕ) (own : ℕ → ℕ) (order : UpslopeFirst n next) where
   abbrev W : ℕ → ℕ
@@ -183,33 +188,34 @@ module _ (n : ℕ) (next : ℕ → ℕ) (passed : ℕ → ℕ → ℕ) (own : �
       ∙ sym (made-at n (λ i. passed i (W i)) 0 i l))
 
 -- what is known of a routing's arrays at turn t
-pub record Routing (n : ℕ) (ways order rules owned lent : List ℕ) (t : ℕ) (wl ol : List ℕ) : Type 0 where
-  pub given-all : Routable n ways order rules owned lent
+pub record Routing (n : ℕ) (slots ways order codes owned lent : List ℕ) (t : ℕ) (wl ol : List ℕ) : Type 0 where
+  pub given-all : Routable n slots ways order codes owned lent
   pub within : t ≤ n
-  pub turn : Turn n (nextIn ways) (passedBy rules) (λ i. getD owned i 0) (given-all .ordered .order) owned t wl ol
+  pub turn : Turn n (nextIn ways) (passing codes slots ways) (λ i. getD owned i 0) (given-all .ordered .order) owned t wl ol
 
-module _ {n : ℕ} {ways order rules owned lent : List ℕ} (r : Routable n ways order rules owned lent) where
+module _ {n : ℕ} {slots ways order codes owned lent : List ℕ} (r : Routable n slots ways order codes owned lent) where
   abbrev o : UpslopeFirst n (nextIn ways)
   o = r .ordered .order
 
-  pub little-water : (i : ℕ) → i < n → reaching n ways rules owned i < 2000000000
+  pub little-water : (i : ℕ) → i < n → reaching n slots ways codes owned i < 2000000000
   little-water i h =
       omega (
         arith,
         r .little,
-        water-most n (nextIn ways) (passedBy rules) o (λ j w l. ruled-most (getD rules j 0) w (r .coded j l)) (λ i. getD owned i 0) i h,
+        water-most n (nextIn ways) (passing codes slots ways) o
+            (λ j w l. passed-most (getD codes (getD slots j 0) 0) (getD ways j 4097) w (r .coded j l .most)) (λ i. getD owned i 0) i h,
       )
 
-  pub routing-starts : Routing n ways order rules owned lent 0 owned lent
+  pub routing-starts : Routing n slots ways order codes owned lent 0 owned lent
   routing-starts =
       record {
         given-all = r;
         within = zero-le;
-        turn = first-turn n (nextIn ways) (passedBy rules) (λ i. getD owned i 0) o (λ i h. refl) (r .one-each);
+        turn = first-turn n (nextIn ways) (passing codes slots ways) (λ i. getD owned i 0) o (λ i h. refl) (r .one-each);
       }
 
-module _ {n : ℕ} {ways order rules owned lent : List ℕ} {t : ℕ} {wl ol : List ℕ} (s : Routing n ways order rules owned lent t wl ol) where
-  abbrev g : Routable n ways order rules owned lent
+module _ {n : ℕ} {slots ways order codes owned lent : List ℕ} {t : ℕ} {wl ol : List ℕ} (s : Routing n slots ways order codes owned lent t wl ol) where
+  abbrev g : Routable n slots ways order codes owned lent
   g = s .given-all
 
   abbrev own : ℕ → ℕ
@@ -223,24 +229,24 @@ module _ {n : ℕ} {ways order rules owned lent : List ℕ} {t : ℕ} {wl ol : L
     pub cell-inside : cell < n
     cell-inside = rw whose (g .ordered .order .placed t h)
 
-    pub cell-reached : getD wl cell 0 ≡ reaching n ways rules owned cell
-    cell-reached = rw whose (reached n (nextIn ways) (passedBy rules) own (g .ordered .order) (s .turn) h)
+    pub cell-reached : getD wl cell 0 ≡ reaching n slots ways codes owned cell
+    cell-reached = rw whose (reached n (nextIn ways) (passing codes slots ways) own (g .ordered .order) (s .turn) h)
 
     pub cell-little : getD wl cell 0 < 2000000000
     cell-little = rw cell-reached (little-water g cell cell-inside)
 
-    module _ (out : ℕ) (q : out ≡ passedBy rules cell (getD wl cell 0)) where
-      passed-on : out ≡ passedBy rules (g .ordered .order .who t) (reaching n ways rules owned (g .ordered .order .who t))
-      passed-on = q ∙ ap (passedBy rules cell) cell-reached ∙ ap (λ (x : ℕ). passedBy rules x (reaching n ways rules owned x)) whose
+    module _ (out : ℕ) (q : out ≡ passing codes slots ways cell (getD wl cell 0)) where
+      passed-on : out ≡ passing codes slots ways (g .ordered .order .who t) (reaching n slots ways codes owned (g .ordered .order .who t))
+      passed-on = q ∙ ap (passing codes slots ways cell) cell-reached ∙ ap (λ (x : ℕ). passing codes slots ways x (reaching n slots ways codes owned x)) whose
 
-      pub routing-outside : n ≤ nextIn ways cell → Routing n ways order rules owned lent (t + 1) wl (set ol cell out)
+      pub routing-outside : n ≤ nextIn ways cell → Routing n slots ways order codes owned lent (t + 1) wl (set ol cell out)
       routing-outside l =
           record {
             given-all = g;
             within = omega arith;
             turn =
                 rw whose
-                (turn-outside n (nextIn ways) (passedBy rules) own (g .ordered .order) (s .turn) h out passed-on
+                (turn-outside n (nextIn ways) (passing codes slots ways) own (g .ordered .order) (s .turn) h out passed-on
                 (subst (λ (x : ℕ). n ≤ nextIn ways x) whose l));
           }
 
@@ -253,25 +259,25 @@ module _ {n : ℕ} {ways order rules owned lent : List ℕ} {t : ℕ} {wl ol : L
             omega (
               arith,
               little-water g j l,
-              turn-fits n (nextIn ways) (passedBy rules) own (g .ordered .order) (s .turn) h out passed-on j leads l,
+              turn-fits n (nextIn ways) (passing codes slots ways) own (g .ordered .order) (s .turn) h out passed-on j leads l,
             )
 
-        pub routing-inside : Routing n ways order rules owned lent (t + 1) (set wl j (getD wl j 0 + out)) (set ol cell out)
+        pub routing-inside : Routing n slots ways order codes owned lent (t + 1) (set wl j (getD wl j 0 + out)) (set ol cell out)
         routing-inside =
             record {
               given-all = g;
               within = omega arith;
               turn =
                   rw whose
-                  (turn-inside n (nextIn ways) (passedBy rules) own (g .ordered .order) (s .turn) h out passed-on j leads l
+                  (turn-inside n (nextIn ways) (passing codes slots ways) own (g .ordered .order) (s .turn) h out passed-on j leads l
                   (omega (arith, g .sized, g .pointing .most)));
             }
 
-  pub routing-ends : n ≤ t → Routed n ways rules owned wl ol
+  pub routing-ends : n ≤ t → Routed n slots ways codes owned wl ol
   routing-ends h =
       let last : t ≡ n = omega (arith, s .within) in
-      let end : Turn n (nextIn ways) (passedBy rules) own (g .ordered .order) owned n wl ol = rw last at (s .turn) in
+      let end : Turn n (nextIn ways) (passing codes slots ways) own (g .ordered .order) owned n wl ol = rw last at (s .turn) in
       record {
-        water-of = last-water n (nextIn ways) (passedBy rules) own (g .ordered .order) end (omega (arith, g .sized, g .pointing .most));
-        outflow-of = last-outflow n (nextIn ways) (passedBy rules) own (g .ordered .order) end;
+        water-of = last-water n (nextIn ways) (passing codes slots ways) own (g .ordered .order) end (omega (arith, g .sized, g .pointing .most));
+        outflow-of = last-outflow n (nextIn ways) (passing codes slots ways) own (g .ordered .order) end;
       }

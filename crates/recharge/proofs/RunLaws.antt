@@ -1,6 +1,6 @@
 -- A day's passes in a row: the cells' own water and rule codes are those of the paper's cells, so that the water routed along the order is rule 4's,
 -- and the figures settled from it are the day's.
-use mathlib.Core.Path.{_≡_, sym, ap, _∙_}
+use mathlib.Core.Path.{_≡_, refl, sym, ap, _∙_}
 use mathlib.Core.Bool.{Bool}
 use mathlib.Core.List.{List}
 use Prim.Native.Nat.{ℕ, _+_, _*_, _≤_, _<_, zero-le}
@@ -21,18 +21,19 @@ use Rattle.paper.proofs.CellDayLaws.{own-most}
 use Rattle.paper.proofs.FlowLaws.{water-same}
 use Rattle.survey.specs.Cells.{cellIn, cellFrom}
 use Rattle.recharge.specs.CellDay.{figuresFrom}
-use Rattle.recharge.specs.OwnWater.{Slotted, OwnReady}
-use Rattle.recharge.specs.RuleCodes.{ruleCode, numberAt, Numbered}
+use Rattle.recharge.specs.CoverDay.{codeOf, SharedBySlot}
+use Rattle.recharge.specs.OwnWater.{OwnReady, ownAt}
 use Rattle.recharge.specs.Retention.{table}
 use Rattle.survey.specs.Routes.{nextIn}
-use Rattle.recharge.specs.Routing.{ruled, passedBy, Routable, Routed}
+use Rattle.recharge.specs.Routing.{passedBy, passing, Routable, Routed}
 use Rattle.recharge.specs.Settle.{totalsBy, figureIn, goneIn, Ready, Settled}
 use Rattle.recharge.specs.Run.{passedIn, ownIn, reachedIn, dayIn, Runnable, Ran}
 use Rattle.records.specs.declared.answers.Totals.{Totals}
 use Rattle.recharge.proofs.SlotNumbers.{slot-number}
-use Rattle.recharge.proofs.RuleLaws.{all-numbered, code-passes, code-most}
+use Rattle.recharge.proofs.CoverDayLaws.{wet-most, own-shared, coded, passed-shared}
 use Rattle.recharge.proofs.FigureLaws.{figures-outflow}
 use Rattle.recharge.proofs.RoutingLaws.{little-water}
+use Rattle.survey.proofs.CoverLaws.{count-limit}
 use Rattle.survey.proofs.WayArrays.{over-at}
 
 -- the totals go by the cells' figures
@@ -60,142 +61,141 @@ module _ (t : Today) (covers slots ways order available soil snow intercepted ou
   blank-sized : length blank ≡ 4096
   blank-sized = length-replicate {A = ℕ} 4096 0
 
-  slotted : Slotted covers (length snow) slots
-  slotted =
-      rw (ready .snows)
-      (record {
-        table = ready .cells .table;
-        few = ready .cells .few;
-        sized = ready .cells .sized;
-        slotted = ready .cells .slotted;
-      })
+  -- the cell of the paper at i, and its slot
+  abbrev cell : ℕ → Cell
+  cell i = cellIn covers slots available ways i
 
-  snow-limit : (i : ℕ) → i < n → getD snow i 0 ≤ mostSnow
-  unfolding mostSnowOf
-  snow-limit i h =
-      let c : Cell = cellIn covers slots available ways i in
-      byCases (c .open?) (λ e. le-trans (rw (cond-true (c .open?) e) at (ready .lying i h)) zero-le)
-      (λ e. rw (cond-false (c .open?) e) at (ready .lying i h))
+  slot-inside : (i : ℕ) → i < n → getD slots i 0 < 256
+  slot-inside i h = omega (arith, ready .cells .slotted i h, count-limit covers (ready .cells .table))
 
-  pub own-ask : OwnReady t covers slots snow blank
-  own-ask =
-      record {
-        cells = slotted;
-        snows = λ i h. snow-limit i (rw (← ready .snows) h);
-        gross = ready .gross;
-        melts = ready .melts;
-        sized = blank-sized;
-      }
-
-  module _ (numbers rules own : List ℕ)
-      (nums : numbers ≡ madeOver (4 * entries covers) (numberAt (t .condition) covers) (replicate {A = ℕ} 256 0))
-      (coded : Numbered (t .condition) covers numbers → rules ≡ madeOver n (λ i. ruleCode (t .condition) (cellIn covers slots available ways i)) blank)
-      (owned : own ≡ madeOver (length snow) (λ i. ownOf (cellIn covers slots available ways i) t (getD snow i 0)) blank) where
-    rule-at : (i : ℕ) → i < n → getD rules i 0 ≡ ruleCode (t .condition) (cellIn covers slots available ways i)
-    rule-at i h =
-        ap (λ (l : List ℕ). getD l i 0) (coded (all-numbered (t .condition) covers numbers _ nums)) ∙ over-at n _ blank 0 i h
-
-    passes : (i w : ℕ) → i < n → passedBy rules i w ≡ passedIn t covers slots ways available i w
-    unfolding passedIn
-    passes i w h =
-        ap (λ (code : ℕ). ruled code w) (rule-at i h)
-        ∙ code-passes covers (getD slots i 0) (getD available i 0) (getD ways i 4097) t (ready .cells .table) (ready .cells .slotted i h) w
-
-    owns : (i : ℕ) → i < n → getD own i 0 ≡ ownIn t covers slots ways available soil snow i
-    unfolding ownIn
-    owns i h = rw (owned, ready .snows) (over-at n _ blank 0 i h)
-
-    own-limit : (i : ℕ) → i < n → getD own i 0 ≤ 450000
-    unfolding ownIn
-    own-limit i h =
-        omega (arith, owns i h, own-most (cellIn covers slots available ways i) t (getD snow i 0), ready .gross, ready .melts)
-
-    pub route-ask : Routable n ways order rules own outflow
-    route-ask =
+  module _ (held rain snowfall codes : List ℕ) (shared : SharedBySlot t covers held rain snowfall codes) where
+    pub own-ask : OwnReady (t .meltable) slots rain snow blank
+    own-ask =
         record {
-          pointing = ready .pointing;
-          ordered = ready .ordered;
-          coded =
-              λ i h. rw (rule-at i h)
-              (code-most (t .condition) (cellIn covers slots available ways i)
-              (unfold cellFrom in (slot-number covers (ready .cells .table) (getD slots i 0) (ready .cells .slotted i h) (t .condition))));
-          sized = ap length owned ∙ over-length (length snow) _ blank (rw (ready .snows) (le-trans (ready .cells .few) (le-of-eq (sym blank-sized)))) ∙ blank-sized;
-          one-each = ready .outflows;
-          little = omega (arith, sum-most n (λ i. getD own i 0) 450000 own-limit, mul-le-mul-right 450000 (ready .cells .few));
+          few = rw (ready .snows) (ready .cells .few);
+          slotted = λ i h. slot-inside i (rw (ready .snows) at h);
+          rains =
+              λ i h. let k : i < n = rw (ready .snows) at h in
+              rw (shared .rain-is .each (getD slots i 0) (getD available i 0) (getD ways i 4097) (ready .cells .slotted i k))
+              (le-trans (wet-most (cell i) t) (ready .gross));
+          melts = ready .melts;
+          sized = blank-sized;
         }
 
-    module _ (reached passedOn : List ℕ) (routed : Routed n ways rules own reached passedOn) where
-      reached-at : (i : ℕ) → i < n → getD reached i 0 ≡ reachedIn t covers slots ways available soil snow i
-      unfolding reachedIn
-      reached-at i h =
-          ap (λ (l : List ℕ). getD l i 0) (routed .water-of)
-          ∙ over-at n _ own 0 i h
-          ∙ water-same n (nextIn ways) (passedBy rules) (passedIn t covers slots ways available) (λ j. getD own j 0)
-          (ownIn t covers slots ways available soil snow) (λ j w hj. passes j w hj) owns i h
+    module _ (own : List ℕ) (owned : own ≡ madeOver (length snow) (ownAt (t .meltable) slots rain snowfall snow) blank) where
+      shared-at : (i : ℕ) → i < n → getD codes (getD slots i 0) 0 ≡ codeOf t (cell i)
+      shared-at i h = shared .codes-are .each (getD slots i 0) (getD available i 0) (getD ways i 4097) (ready .cells .slotted i h)
 
-      outflow-at : (i : ℕ) → i < n → getD passedOn i 0 ≡ passedOf (cellIn covers slots available ways i) t (getD reached i 0)
-      unfolding passedIn
-      outflow-at i h =
-          ap (λ (l : List ℕ). getD l i 0) (routed .outflow-of)
-          ∙ made-at n _ 0 i h
-          ∙ passes i _ h
-          ∙ ap (passedOf (cellIn covers slots available ways i) t)
-          (sym (ap (λ (l : List ℕ). getD l i 0) (routed .water-of) ∙ over-at n _ own 0 i h))
+      passes : (i w : ℕ) → i < n → passing codes slots ways i w ≡ passedIn t covers slots ways available i w
+      unfolding passedIn cellFrom
+      passes i w h =
+          ap (λ (code : ℕ). passedBy code (getD ways i 4097) w) (shared-at i h)
+          ∙ passed-shared (cell i) t (slot-number covers (ready .cells .table) (getD slots i 0) (ready .cells .slotted i h) (t .condition)) (getD ways i 4097) w refl
 
-      pub settle-ask : (f : List ℕ) → f ≡ table → Ready t f covers slots ways reached available soil snow intercepted passedOn evapotranspired recharged rejected
-      settle-ask f e =
+      owns : (i : ℕ) → i < n → getD own i 0 ≡ ownIn t covers slots ways available soil snow i
+      unfolding ownIn ownAt
+      owns i h =
+          let k = ready .cells .slotted i h in
+          rw (
+            owned,
+            ready .snows,
+            over-at n (ownAt (t .meltable) slots rain snowfall snow) blank 0 i h,
+            shared .rain-is .each (getD slots i 0) (getD available i 0) (getD ways i 4097) k,
+            shared .snowfall-is .each (getD slots i 0) (getD available i 0) (getD ways i 4097) k,
+          )
+          (own-shared (cell i) t (getD snow i 0) (ready .lying i h))
+
+      own-limit : (i : ℕ) → i < n → getD own i 0 ≤ 450000
+      unfolding ownIn
+      own-limit i h =
+          omega (arith, owns i h, own-most (cellIn covers slots available ways i) t (getD snow i 0), ready .gross, ready .melts)
+
+      pub route-ask : Routable n slots ways order codes own outflow
+      route-ask =
           record {
-            gross = ready .gross;
-            potential = ready .potential;
-            retained = e;
-            cells = ready .cells;
-            pointed = ready .pointing .sized;
-            soils = ready .soils;
-            snows = ready .snows;
-            interceptions = ready .interceptions;
-            outflows = ap length (routed .outflow-of) ∙ made-length n _;
-            evapotranspirations = ready .evapotranspirations;
-            recharges = ready .recharges;
-            rejections = ready .rejections;
-            held = ready .held;
-            lying = ready .lying;
-            joined = ready .joined;
-            wet = λ i h. rw (ap (λ (l : List ℕ). getD l i 0) (routed .water-of) ∙ over-at n _ own 0 i h) (little-water route-ask i h);
-            passed = outflow-at;
+            pointing = ready .pointing;
+            ordered = ready .ordered;
+            slotted = slot-inside;
+            coded =
+                λ i h. rw (shared-at i h)
+                (coded (cell i) t (unfold cellFrom in (slot-number covers (ready .cells .table) (getD slots i 0) (ready .cells .slotted i h) (t .condition))));
+            sized = ap length owned ∙ over-length (length snow) _ blank (rw (ready .snows) (le-trans (ready .cells .few) (le-of-eq (sym blank-sized)))) ∙ blank-sized;
+            one-each = ready .outflows;
+            little = omega (arith, sum-most n (λ i. getD own i 0) 450000 own-limit, mul-le-mul-right 450000 (ready .cells .few));
           }
 
-      pub one-each : length passedOn ≡ length outflow
-      one-each = ap length (routed .outflow-of) ∙ made-length n _ ∙ sym (ready .outflows)
+      module _ (reached passedOn : List ℕ) (routed : Routed n slots ways codes own reached passedOn) where
+        reached-at : (i : ℕ) → i < n → getD reached i 0 ≡ reachedIn t covers slots ways available soil snow i
+        unfolding reachedIn
+        reached-at i h =
+            ap (λ (l : List ℕ). getD l i 0) (routed .water-of)
+            ∙ over-at n _ own 0 i h
+            ∙ water-same n (nextIn ways) (passing codes slots ways) (passedIn t covers slots ways available) (λ j. getD own j 0)
+            (ownIn t covers slots ways available soil snow) (λ j w hj. passes j w hj) owns i h
 
-      figure-at : (i : ℕ) → i < n
-          → figureIn t covers slots available ways reached soil snow i ≡ dayIn t covers slots ways available soil snow i
-      unfolding figureIn dayIn
-      figure-at i h = ap (figuresFrom (cellIn covers slots available ways i) t (getD soil i 0) (getD snow i 0)) (reached-at i h)
+        outflow-at : (i : ℕ) → i < n → getD passedOn i 0 ≡ passedOf (cellIn covers slots available ways i) t (getD reached i 0)
+        unfolding passedIn
+        outflow-at i h =
+            ap (λ (l : List ℕ). getD l i 0) (routed .outflow-of)
+            ∙ made-at n _ 0 i h
+            ∙ passes i _ h
+            ∙ ap (passedOf (cellIn covers slots available ways i) t)
+            (sym (ap (λ (l : List ℕ). getD l i 0) (routed .water-of) ∙ over-at n _ own 0 i h))
 
-      part : (p : Figures → ℕ) (i : ℕ) → i < n
-          → p (figureIn t covers slots available ways reached soil snow i) ≡ p (dayIn t covers slots ways available soil snow i)
-      part p i h = ap p (figure-at i h)
+        pub settle-ask : (f : List ℕ) → f ≡ table → Ready t f covers slots ways reached available soil snow intercepted passedOn evapotranspired recharged rejected
+        settle-ask f e =
+            record {
+              gross = ready .gross;
+              potential = ready .potential;
+              retained = e;
+              cells = ready .cells;
+              pointed = ready .pointing .sized;
+              soils = ready .soils;
+              snows = ready .snows;
+              interceptions = ready .interceptions;
+              outflows = ap length (routed .outflow-of) ∙ made-length n _;
+              evapotranspirations = ready .evapotranspirations;
+              recharges = ready .recharges;
+              rejections = ready .rejections;
+              held = ready .held;
+              lying = ready .lying;
+              joined = ready .joined;
+              wet = λ i h. rw (ap (λ (l : List ℕ). getD l i 0) (routed .water-of) ∙ over-at n _ own 0 i h) (little-water route-ask i h);
+              passed = outflow-at;
+            }
 
-      pub ran : (totals : Totals) (soil' snow' int et re rj : List ℕ)
-          → Settled n (t .gross) (figureIn t covers slots available ways reached soil snow) (goneIn covers slots ways) totals soil' snow' int et re rj
-          → Ran t covers slots ways available soil snow totals soil' snow' int passedOn et re rj
-      unfolding dayIn
-      ran totals soil' snow' int et re rj s =
-          record {
-            settled =
-                record {
-                  summed = s .summed ∙ totals-same n (t .gross) _ _ (goneIn covers slots ways) figure-at;
-                  soils = s .soils ∙ made-cong n _ _ (part (λ f. f .soil));
-                  snows = s .snows ∙ made-cong n _ _ (part (λ f. f .snow));
-                  interceptions = s .interceptions ∙ made-cong n _ _ (part (λ f. f .intercepted));
-                  evapotranspirations = s .evapotranspirations ∙ made-cong n _ _ (part (λ f. f .evapotranspired));
-                  recharges = s .recharges ∙ made-cong n _ _ (part (λ f. f .recharged));
-                  rejections = s .rejections ∙ made-cong n _ _ (part (λ f. f .rejected));
-                };
-            outflow-is =
-                routed .outflow-of
-                ∙ made-cong n _ _ (λ i h. sym (made-at n _ 0 i h) ∙ ap (λ (l : List ℕ). getD l i 0) (sym (routed .outflow-of))
-                ∙ outflow-at i h
-                ∙ ap (passedOf (cellIn covers slots available ways i) t) (reached-at i h)
-                ∙ sym (figures-outflow (cellIn covers slots available ways i) t (getD soil i 0) (getD snow i 0) _));
-          }
+        pub one-each : length passedOn ≡ length outflow
+        one-each = ap length (routed .outflow-of) ∙ made-length n _ ∙ sym (ready .outflows)
+
+        figure-at : (i : ℕ) → i < n
+            → figureIn t covers slots available ways reached soil snow i ≡ dayIn t covers slots ways available soil snow i
+        unfolding figureIn dayIn
+        figure-at i h = ap (figuresFrom (cellIn covers slots available ways i) t (getD soil i 0) (getD snow i 0)) (reached-at i h)
+
+        part : (p : Figures → ℕ) (i : ℕ) → i < n
+            → p (figureIn t covers slots available ways reached soil snow i) ≡ p (dayIn t covers slots ways available soil snow i)
+        part p i h = ap p (figure-at i h)
+
+        pub ran : (totals : Totals) (soil' snow' int et re rj : List ℕ)
+            → Settled n (t .gross) (figureIn t covers slots available ways reached soil snow) (goneIn covers slots ways) totals soil' snow' int et re rj
+            → Ran t covers slots ways available soil snow totals soil' snow' int passedOn et re rj
+        unfolding dayIn
+        ran totals soil' snow' int et re rj s =
+            record {
+              settled =
+                  record {
+                    summed = s .summed ∙ totals-same n (t .gross) _ _ (goneIn covers slots ways) figure-at;
+                    soils = s .soils ∙ made-cong n _ _ (part (λ f. f .soil));
+                    snows = s .snows ∙ made-cong n _ _ (part (λ f. f .snow));
+                    interceptions = s .interceptions ∙ made-cong n _ _ (part (λ f. f .intercepted));
+                    evapotranspirations = s .evapotranspirations ∙ made-cong n _ _ (part (λ f. f .evapotranspired));
+                    recharges = s .recharges ∙ made-cong n _ _ (part (λ f. f .recharged));
+                    rejections = s .rejections ∙ made-cong n _ _ (part (λ f. f .rejected));
+                  };
+              outflow-is =
+                  routed .outflow-of
+                  ∙ made-cong n _ _ (λ i h. sym (made-at n _ 0 i h) ∙ ap (λ (l : List ℕ). getD l i 0) (sym (routed .outflow-of))
+                  ∙ outflow-at i h
+                  ∙ ap (passedOf (cellIn covers slots available ways i) t) (reached-at i h)
+                  ∙ sym (figures-outflow (cellIn covers slots available ways i) t (getD soil i 0) (getD snow i 0) _));
+            }

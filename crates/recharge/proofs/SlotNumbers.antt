@@ -14,7 +14,6 @@ use Rattle.paper.specs.CurveNumber.{Condition, curveNumber}
 use Rattle.paper.proofs.CurveNumberLaws.{UpTo100, curve-number-limits}
 use Rattle.survey.specs.Covers.{EntriesFit}
 use Rattle.survey.specs.Cells.{cellFrom, SlotsFit}
-use Rattle.recharge.specs.OwnWater.{Slotted}
 use Rattle.recharge.specs.Depths.{mostCapacity}
 
 pub whole-entry : (covers : List ℕ) (slot : ℕ) → slot < 4 * entries covers → 16 * (slot / 4) + 16 ≤ length covers

@@ -4,7 +4,7 @@ pub mod Soil
 pub mod Routing
 pub mod Ground
 pub mod OwnWater
-pub mod RuleCodes
+pub mod CoverDay
 pub mod CellDay
 pub mod Settle
 pub mod Run

@@ -1,4 +1,4 @@
--- What a cell passes on by its rule, and the routing of water along an order of the cells.
+-- What a cell passes on by its code and its way, and the routing of water along an order of the cells.
 use mathlib.Core.Path.{_≡_}
 use mathlib.Core.Bool.{cond}
 use mathlib.Core.List.{List}
@@ -11,27 +11,34 @@ use Rattle.paper.specs.Flow.{water}
 use Rattle.paper.specs.Outflow.{outflow}
 use Rattle.survey.specs.Routes.{nextIn, WaysIn, OrderedBy}
 
--- what a cell passes on of its water, by its code: 0 a closed depression, 101 open water, else the curve number
-unfoldable pub ruled : ℕ → ℕ → ℕ
-ruled code w = cond (eqb code 0) 0 (cond (eqb code 101) w (outflow code w))
+-- all of its water on open water (code 101), none from a closed depression (way 4,097), else what its curve number lets go
+unfoldable pub passedBy : ℕ → ℕ → ℕ → ℕ
+passedBy code way w = cond (eqb code 101) w (cond (eqb way 4097) 0 (outflow code w))
 
-abbrev pub passedBy : List ℕ → ℕ → ℕ → ℕ
-passedBy rules i w = ruled (getD rules i 0) w
+-- cell i of lists of codes by slot, slots and ways
+abbrev pub passing : List ℕ → List ℕ → List ℕ → ℕ → ℕ → ℕ
+passing codes slots ways i w = passedBy (getD codes (getD slots i 0) 0) (getD ways i 4097) w
 
 -- the water that reaches each cell, by the paper, from the cells' own water
-abbrev pub reaching : ℕ → List ℕ → List ℕ → List ℕ → ℕ → ℕ
-reaching n ways rules owned = water n (nextIn ways) (passedBy rules) (λ i. getD owned i 0)
+abbrev pub reaching : ℕ → List ℕ → List ℕ → List ℕ → List ℕ → ℕ → ℕ
+reaching n slots ways codes owned = water n (nextIn ways) (passing codes slots ways) (λ i. getD owned i 0)
 
--- what routing asks for: an order of the cells, a rule for each, and water that fits even where all of it gathers in one cell
-pub record Routable (n : ℕ) (ways order rules owned lent : List ℕ) : Type 0 where
+-- open water's code, or a curve number
+pub record Coded (code : ℕ) : Type 0 where
+  pub least : 1 ≤ code
+  pub most : code ≤ 101
+
+-- what routing asks for: an order of the cells, a code for each, and water that fits even where all of it gathers in one cell
+pub record Routable (n : ℕ) (slots ways order codes owned lent : List ℕ) : Type 0 where
+  pub slotted : (i : ℕ) → i < n → getD slots i 0 < 256
   pub pointing : WaysIn n ways
   pub ordered : OrderedBy n (nextIn ways) order
-  pub coded : (i : ℕ) → i < n → getD rules i 0 ≤ 101
+  pub coded : (i : ℕ) → i < n → Coded (getD codes (getD slots i 0) 0)
   pub sized : length owned ≡ 4096
   pub one-each : length lent ≡ n
   pub little : sum n (λ i. getD owned i 0) < 2000000000
 
 -- the water that reached each cell, over its own, and what each passed on
-pub record Routed (n : ℕ) (ways rules owned reached lent : List ℕ) : Type 0 where
-  pub water-of : reached ≡ madeOver n (reaching n ways rules owned) owned
-  pub outflow-of : lent ≡ made n (λ i. passedBy rules i (reaching n ways rules owned i))
+pub record Routed (n : ℕ) (slots ways codes owned reached lent : List ℕ) : Type 0 where
+  pub water-of : reached ≡ madeOver n (reaching n slots ways codes owned) owned
+  pub outflow-of : lent ≡ made n (λ i. passing codes slots ways i (reaching n slots ways codes owned i))

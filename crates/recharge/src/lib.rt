@@ -1,6 +1,7 @@
 // The library: the office's three calls, and its rules as code. Each rule is one function, and its contract is one definition of the crate `paper`.
 mod calls;
 mod cell_day;
+mod cover_day;
 mod curve_numbers;
 mod ground;
 mod interception;
@@ -9,7 +10,6 @@ mod outflow;
 mod own_water;
 mod retention;
 mod routing;
-mod rule_codes;
 mod run;
 mod settle;
 mod soil;

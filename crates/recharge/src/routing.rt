@@ -4,21 +4,21 @@ use records::CurveNumber;
 use records::Depth;
 use records::place;
 ghost use mathlib.Core.Path.{_≡_};
-ghost use Prim.Native.Nat.{_≤_, _<_};
-ghost use Rattle.recharge.specs.Routing.{ruled, Routable, Routed};
+ghost use Prim.Native.Nat.{_<_};
+ghost use Rattle.recharge.specs.Routing.{passedBy, Coded, Routable, Routed};
 
-// What a cell passes on of its water, by the code of its rule.
-fn passed(rule: u32, w: u32) -> u32
-    requires { ⌜ (rule ≤ 101) × (w < 2000000000) ⌝ }
-    ensures { λ r. ⌜ r ≡ ruled rule w ⌝ }
+// What a cell passes on of its water: all on open water, and nothing from a closed depression.
+fn passed(code: u32, way: u32, w: u32) -> u32
+    requires { ⌜ Coded code × (w < 2000000000) ⌝ }
+    ensures { λ r. ⌜ r ≡ passedBy code way w ⌝ }
 {
-    if rule == 0 {
-        return 0;
-    }
-    if rule == 101 {
+    if code == 101 {
         return w;
     }
-    let out = outflow(CurveNumber(rule as u64), Depth(w as u64));
+    if way == 4097 {
+        return 0;
+    }
+    let out = outflow(CurveNumber(code as u64), Depth(w as u64));
     let units = out.0;
     units as u32
 }
@@ -26,21 +26,23 @@ fn passed(rule: u32, w: u32) -> u32
 // No sum overflows: all the water there is fits in one cell.
 pub(crate) fn route(
     n: usize,
+    slots: &[u32; 4096],
     ways: &[u32; 4096],
     order: &[u32; 4096],
-    rules: &[u32; 4096],
+    codes: &[u32; 256],
     water: &mut [u32; 4096],
     outflow: &mut [u32],
 )
-    requires { ⌜ Routable n (now ways) (now order) (now rules) (now water) (now outflow) ⌝ }
-    ensures { λ r. ⌜ Routed n (now (ways .entry)) (now (rules .entry)) (now (water .entry)) (now (water .exit)) (now (outflow .exit)) ⌝ }
+    requires { ⌜ Routable n (now slots) (now ways) (now order) (now codes) (now water) (now outflow) ⌝ }
+    ensures { λ r. ⌜ Routed n (now (slots .entry)) (now (ways .entry)) (now (codes .entry)) (now (water .entry)) (now (water .exit)) (now (outflow .exit)) ⌝ }
 {
     let mut t = 0;
     while t < n {
         let cell = place(order[t]);
-        let out = passed(rules[cell], water[cell]);
+        let way = ways[cell];
+        let out = passed(codes[place(slots[cell])], way, water[cell]);
         outflow[cell] = out;
-        let j = place(ways[cell]);
+        let j = place(way);
         if j < n {
             water[j] += out;
         }

@@ -1,11 +1,10 @@
 // An accepted day over all cells: their own water, its way downhill, and what it does to the ground of each.
 ghost use Rattle.records.specs.Calls.{todayOf};
 ghost use Rattle.recharge.specs.Run.{Runnable, Ran};
+use crate::cover_day::cover_days;
 use crate::own_water::own_water;
 use crate::retention::retention;
 use crate::routing::route;
-use crate::rule_codes::curve_numbers;
-use crate::rule_codes::rule_codes;
 use crate::settle::settle;
 use records::Today;
 use records::Totals;
@@ -29,14 +28,22 @@ pub(crate) fn run(
     ensures { λ r. ⌜ Ran (todayOf today) (now (covers .entry)) (now (slots .entry)) (now (ways .entry)) (now (water .entry)) (now (soil .entry)) (now (snow .entry)) r (now (soil .exit)) (now (snow .exit)) (now (intercepted .exit)) (now (outflow .exit)) (now (evapotranspired .exit)) (now (recharged .exit)) (now (rejected .exit)) ⌝ }
 {
     let n = water.len();
-    let mut numbers = [0u32; 256];
-    let condition = today.condition;
-    curve_numbers(condition, covers, &mut numbers);
-    let mut rules = [0u32; 4096];
-    rule_codes(covers, slots, ways, &numbers, n, &mut rules);
+    let mut held = [0u32; 256];
+    let mut rain = [0u32; 256];
+    let mut snowfall = [0u32; 256];
+    let mut codes = [0u32; 256];
+    cover_days(
+        today,
+        covers,
+        &mut held,
+        &mut rain,
+        &mut snowfall,
+        &mut codes,
+    );
     let mut reached = [0u32; 4096];
-    own_water(today, covers, slots, snow, &mut reached);
-    route(n, ways, order, &rules, &mut reached, outflow);
+    let meltable = today.meltable;
+    own_water(meltable, slots, &rain, &snowfall, snow, &mut reached);
+    route(n, slots, ways, order, &codes, &mut reached, outflow);
     let f = retention();
     settle(
         today,

@@ -1,32 +1,47 @@
--- `own_water::own_at` meets its contract: gross precipitation on open water, rain and melt on land.
-use mathlib.Core.Path.{sym, _∙_}
+-- `own_water::own_at` meets its contract: the melt is at most what can melt, so that the sum fits.
+use native.Mathlib.Omega.{arith}
 use borrow.Author.Needs.{needs}
-use Rattle.theory.proofs.Cases.{cond-true, cond-false}
-use Rattle.paper.specs.CellDay.{figureOf, ownOf}
-use Rattle.survey.specs.Cells.{cellFrom}
+use Rattle.paper.specs.Snow.{melt}
+use Rattle.recharge.specs.OwnWater.{ownBy}
 use Rattle.recharge.proofs.own_water.own_at.Statement.{statement}
 use Rattle.recharge.proofs.own_water.own_at.Tie as tie
 
-is-open-requires : tie.Need-is-open-requires
-is-open-requires c κs = search needs
+wide-requires : tie.Need-wide-requires
+wide-requires c κs = search needs
+
+wide-requires-2 : tie.Need-wide-requires-2
+wide-requires-2 c κs = search needs
+
+add-t9 : tie.Need-add-t9
+add-t9 c = search needs
+
+melt-requires : tie.Need-melt-requires
+melt-requires c κs = search needs
+
+wide-requires-3 : tie.Need-wide-requires-3
+wide-requires-3 c κs = search needs
+
+add-units : tie.Need-add-units
+unfolding melt
+add-units c = omega arith
+
+cast-result : tie.Need-cast-result
+unfolding melt
+cast-result c = omega arith
 
 returns : tie.Need-returns
-unfolding ownOf cellFrom
-returns c = λ water way. sym (cond-true _ (sym (c .before .before .is-open .ensures) ∙ c .before .if1 .taken) _ _)
-
-season-figure-requires : tie.Need-season-figure-requires
-season-figure-requires c κs = search needs
-
-bring-requires : tie.Need-bring-requires
-bring-requires c κs = search needs
-
-returns-2 : tie.Need-returns-2
-unfolding ownOf cellFrom figureOf
-returns-2 c = λ water way.
-    let a = c .before .before .before .before .before .before .args in
-    c .before .bring .ensures (cellFrom (a .covers .now) (a .slot) water way) (c .before .before .season-figure .ensures) .water
-    ∙ sym (cond-false _ (sym (c .before .before .before .before .is-open .ensures) ∙ c .before .before .before .if1 .left) _ _)
+unfolding ownBy melt
+returns c = omega arith
 
 pub own-at-spec : {M : Type 1} → statement M
 own-at-spec =
-    tie.close (tie.spec is-open-requires returns season-figure-requires bring-requires returns-2)
+    tie.close
+    (tie.spec
+    wide-requires
+    wide-requires-2
+    add-t9
+    melt-requires
+    wide-requires-3
+    add-units
+    cast-result
+    returns)
