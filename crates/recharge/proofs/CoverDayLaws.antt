@@ -3,7 +3,7 @@
 use mathlib.Core.Path.{_≡_, refl, ap, sym, _∙_}
 use mathlib.Core.Bool.{Bool, true, false, not}
 use mathlib.Core.List.{List}
-use Prim.Native.Nat.{ℕ, _-_, _*_, _≤_, zero-le}
+use Prim.Native.Nat.{ℕ, _+_, _-_, _*_, _≤_, zero-le}
 use native.Mathlib.Nat.{le-refl, le-trans}
 use native.Mathlib.Omega.{arith}
 use lib.Dec.{eqb}
@@ -63,6 +63,16 @@ module _ (c : Cell) (t : Today) where
   pub code-land : (table number : ℕ) → c .open? ≡ false → table ≡ c .N → number ≡ curveNumber (t .condition) table → number ≡ codeOf t c
   unfolding codeOf
   code-land table number dry e k = rw (cond-false (c .open?) dry, k, e)
+
+  -- on land, as the last pass reads them
+  pub land-held : c .open? ≡ false → heldOf t c ≡ interceptedOf c t
+  unfolding heldOf
+  land-held dry = cond-false (c .open?) dry _ _
+
+  pub land-snow : (snow fall melted : ℕ) → c .open? ≡ false → fall ≡ fallOf t c → melted ≡ melt (snow + fall) (t .meltable)
+      → snow + fall - melted ≡ storeOf c t snow - meltOf c t snow
+  unfolding fallOf storeOf meltOf
+  land-snow snow fall melted dry e m = rw (m, e, cond-false (c .open?) dry)
 
   pub held-most : heldOf t c ≤ t .gross
   unfolding heldOf interceptedOf intercepted

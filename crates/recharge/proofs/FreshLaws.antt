@@ -27,9 +27,9 @@ use Rattle.survey.proofs.MapLaws.{sound-setup, waters-each, slot-at, slots-fit}
 use Rattle.recharge.specs.Ground.{Stands}
 use Rattle.recharge.specs.declared.ground.Ground.{Ground}
 
-pub filled-is : (c : Cell) (growing : Bool) (g : Ground) (x : ℕ) → Stands c growing g → x ≡ cond (g .«open_water») 0 (g .capacity .0) → x ≡ mostSoilOf c
+pub filled-is : (c : Cell) (g : Ground) (x : ℕ) → Stands c g → x ≡ cond (g .«open_water») 0 (g .capacity .0) → x ≡ mostSoilOf c
 unfolding mostSoilOf
-filled-is c growing g x stands e = e ∙ rw (stands .open?, stands .capacity) refl
+filled-is c g x stands e = e ∙ rw (stands .open?, stands .capacity) refl
 
 -- the place to be written is inside
 pub room : (f : ℕ → ℕ) (l before : List ℕ) (i n : ℕ) → l ≡ madeOver i f before → length before ≡ n → i < n → i < length l

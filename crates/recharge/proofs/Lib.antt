@@ -4,7 +4,6 @@ pub mod FigureLaws
 pub mod FreshLaws
 pub mod LoopLaws
 pub mod LossRoom
-pub mod OwnWaterLaws
 pub mod RetentionTable
 pub mod RoutingLaws
 pub mod CoverDayLaws

@@ -142,7 +142,7 @@ module _ (t : Today) (covers slots ways order available soil snow intercepted ou
             ∙ ap (passedOf (cellIn covers slots available ways i) t)
             (sym (ap (λ (l : List ℕ). getD l i 0) (routed .water-of) ∙ over-at n _ own 0 i h))
 
-        pub settle-ask : (f : List ℕ) → f ≡ table → Ready t f covers slots ways reached available soil snow intercepted passedOn evapotranspired recharged rejected
+        pub settle-ask : (f : List ℕ) → f ≡ table → Ready t f covers slots ways held snowfall reached available soil snow intercepted passedOn evapotranspired recharged rejected
         settle-ask f e =
             record {
               gross = ready .gross;
@@ -150,6 +150,8 @@ module _ (t : Today) (covers slots ways order available soil snow intercepted ou
               retained = e;
               cells = ready .cells;
               pointed = ready .pointing .sized;
+              held-is = shared .held-is;
+              fall-is = shared .snowfall-is;
               soils = ready .soils;
               snows = ready .snows;
               interceptions = ready .interceptions;

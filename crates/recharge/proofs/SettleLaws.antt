@@ -23,10 +23,14 @@ use Rattle.paper.specs.Day as paper
 use Rattle.survey.specs.Covers.{EntriesFit}
 use Rattle.survey.specs.Cells.{cellFrom, cellIn}
 use Rattle.recharge.specs.CellDay.{figuresFrom, CellReady, Fit32}
+use Rattle.recharge.specs.CoverDay.{Fell}
 use Rattle.recharge.specs.Ground.{Stands}
 use Rattle.recharge.specs.Settle.{totalsIn, withCell, totalsBy, Room, figureIn, goneIn, Ready, Settled}
 use Rattle.records.specs.declared.answers.Totals.{Totals}
+use Rattle.recharge.specs.declared.cover_day.Fallen.{Fallen}
 use Rattle.recharge.specs.declared.ground.Ground.{Ground}
+use Rattle.survey.proofs.CoverLaws.{count-limit}
+use Rattle.recharge.proofs.CoverDayLaws.{fall-most}
 use Rattle.recharge.proofs.SlotNumbers.{slot-number, slot-capacity}
 use Rattle.recharge.proofs.FigureLaws.{figures-outflow, figures-fit}
 use Rattle.recharge.proofs.LoopLaws.{wrote, any-default}
@@ -44,8 +48,8 @@ snow-within c snow h =
 -- each cell of a grid that is ready
 module _
     {t : Today}
-    {f covers slots ways reached water soil snow intercepted outflow evapotranspired recharged rejected : List ℕ}
-    (ready : Ready t f covers slots ways reached water soil snow intercepted outflow evapotranspired recharged rejected)
+    {f covers slots ways heldBy fallBy reached water soil snow intercepted outflow evapotranspired recharged rejected : List ℕ}
+    (ready : Ready t f covers slots ways heldBy fallBy reached water soil snow intercepted outflow evapotranspired recharged rejected)
     (i : ℕ)
     (h : i < length water)
   where
@@ -53,22 +57,34 @@ module _
         → EntriesFit covers × (slot < 4 * entries covers) × (wet ≤ mostAvailableWater)
     ready-slot slot wet s w = (ready .cells .table, rw s (ready .cells .slotted i h), rw w (ready .cells .watered i h))
 
-    pub ready-stands : (growing : Bool) (slot wet : ℕ) (g : Ground) → slot ≡ getD slots i 0 → wet ≡ getD water i 0
-        → ((way : ℕ) → Stands (cellFrom covers slot wet way) growing g) → Stands (cellIn covers slots water ways i) growing g
-    ready-stands growing slot wet g s w st =
-        subst (λ (k : ℕ). Stands (cellFrom covers k (getD water i 0) (getD ways i 4097)) growing g) s
-        (subst (λ (k : ℕ). Stands (cellFrom covers slot k (getD ways i 4097)) growing g) w (st (getD ways i 4097)))
+    pub ready-inside : (slot : ℕ) → slot ≡ getD slots i 0 → slot < 256
+    ready-inside slot s = omega (arith, ready .cells .slotted i h, count-limit covers (ready .cells .table))
+
+    pub ready-stands : (slot wet : ℕ) (g : Ground) → slot ≡ getD slots i 0 → wet ≡ getD water i 0
+        → ((way : ℕ) → Stands (cellFrom covers slot wet way) g) → Stands (cellIn covers slots water ways i) g
+    ready-stands slot wet g s w st =
+        subst (λ (k : ℕ). Stands (cellFrom covers k (getD water i 0) (getD ways i 4097)) g) s
+        (subst (λ (k : ℕ). Stands (cellFrom covers slot k (getD ways i 4097)) g) w (st (getD ways i 4097)))
+
+    pub ready-fell : (slot : ℕ) (r : Fallen) → slot ≡ getD slots i 0 → (r .held .0 ≡ getD heldBy slot 0) × (r .snowfall .0 ≡ getD fallBy slot 0)
+        → Fell (cellIn covers slots water ways i) t r
+    ready-fell slot r s e =
+        let k = ready .cells .slotted i h in
+        record {
+          held = e .0 ∙ rw s (ready .held-is .each (getD slots i 0) (getD water i 0) (getD ways i 4097) k);
+          snowfall = e .1 ∙ rw s (ready .fall-is .each (getD slots i 0) (getD water i 0) (getD ways i 4097) k);
+        }
 
     deep : cellIn covers slots water ways i .capacity ≤ 600000
     deep =
         slot-capacity covers (ready .cells .table) (getD slots i 0) (ready .cells .slotted i h) (getD water i 0) (getD ways i 4097)
         (ready .cells .watered i h)
 
-    pub ready-cell : (growing : Bool) (g : Ground) (s n w : ℕ) → Stands (cellIn covers slots water ways i) growing g
-        → s ≡ getD soil i 0 → n ≡ getD snow i 0 → w ≡ getD reached i 0 → CellReady t (g .capacity .0) s n w f
-    ready-cell growing g s n w st es en ew =
+    pub ready-cell : (g : Ground) (r : Fallen) (s n w : ℕ) → Stands (cellIn covers slots water ways i) g → Fell (cellIn covers slots water ways i) t r
+        → s ≡ getD soil i 0 → n ≡ getD snow i 0 → w ≡ getD reached i 0 → CellReady t (g .capacity .0) (r .snowfall .0) s n w f
+    ready-cell g r s n w st fell es en ew =
         record {
-          gross = ready .gross;
+          fallen = rw (fell .snowfall) (le-trans (fall-most (cellIn covers slots water ways i) t) (ready .gross));
           potential = ready .potential;
           deep = rw (st .capacity) deep;
           held = rw (es, st .capacity) (soil-within _ _ (ready .held i h));
@@ -95,19 +111,19 @@ module _
     unfolding figureIn
     leaving = figures-outflow (cellIn covers slots water ways i) t _ _ _ ∙ sym (ready .passed i h)
 
-    gone-as : (growing : Bool) (g : Ground) → Stands (cellIn covers slots water ways i) growing g
+    gone-as : (g : Ground) → Stands (cellIn covers slots water ways i) g
         → (g .«open_water» || eqb (getD ways i 0) mostCells) ≡ goneIn covers slots ways i
     unfolding goneIn cellFrom
-    gone-as growing g st =
+    gone-as g st =
         ap (λ (b : Bool). b || eqb (getD ways i 0) mostCells) (st .open?)
         ∙ ap (λ (k : ℕ). cellIn covers slots water ways i .open? || eqb k mostCells)
         (any-default ways i 0 4097 (rw (ready .pointed) (lt-of-lt-of-le h (ready .cells .few))))
 
-    pub ready-gone : (growing : Bool) (g : Ground) (out gone : ℕ) → Stands (cellIn covers slots water ways i) growing g → out ≡ getD outflow i 0
+    pub ready-gone : (g : Ground) (out gone : ℕ) → Stands (cellIn covers slots water ways i) g → out ≡ getD outflow i 0
         → gone ≡ given (g .«open_water» || eqb (getD ways i 0) mostCells) out
         → gone ≡ given (goneIn covers slots ways i) (figureIn t covers slots water ways reached soil snow i .outflow)
-    ready-gone growing g out gone st eo e =
-        e ∙ ap (λ (b : Bool). given b out) (gone-as growing g st) ∙ ap (given (goneIn covers slots ways i)) (eo ∙ sym leaving)
+    ready-gone g out gone st eo e =
+        e ∙ ap (λ (b : Bool). given b out) (gone-as g st) ∙ ap (given (goneIn covers slots ways i)) (eo ∙ sym leaving)
 
 pub gone-most : (b : Bool) (gone x out : ℕ) → gone ≡ given b x → out ≡ x → gone ≤ out
 gone-most b gone x out e q = rw (e, q) (given-most b x)

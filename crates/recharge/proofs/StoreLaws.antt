@@ -30,7 +30,7 @@ module _ (covers : List ℕ) (slot water way : ℕ) where
   stores-any soil snow = refl
 
   -- by the ground that the slot finds: on open water, past the capacity, and within it
-  module _ (soil snow : ℕ) (growing : Bool) (g : Ground) (stands : Stands (cellFrom covers slot water way) growing g) where
+  module _ (soil snow : ℕ) (g : Ground) (stands : Stands (cellFrom covers slot water way) g) where
     pub stores-open : g .«open_water» ≡ true → (eqb soil 0 && eqb snow 0) ≡ storesFrom covers slot water soil snow
     unfolding storesFrom mostSoilOf mostSnowOf cellFrom
     stores-open wet = rw (sym (stands .open?), wet, leb-zero soil, leb-zero snow) refl

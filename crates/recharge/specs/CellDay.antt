@@ -23,8 +23,8 @@ figuresOf r =
     }
 
 -- a day, a ground and stores within their limits
-pub record CellReady (t : paper.Today) (capacity soil snow reached : ℕ) (f : List ℕ) : Type 0 where
-  pub gross : t .gross ≤ mostGross
+pub record CellReady (t : paper.Today) (capacity snowfall soil snow reached : ℕ) (f : List ℕ) : Type 0 where
+  pub fallen : snowfall ≤ mostGross
   pub potential : t .potential ≤ mostPotential
   pub deep : capacity ≤ mostCapacity
   pub held : soil ≤ capacity

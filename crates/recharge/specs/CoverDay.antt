@@ -11,6 +11,7 @@ use Rattle.paper.specs.CurveNumber.{curveNumber}
 use Rattle.paper.specs.CellDay.{Today, interceptedOf, netOf, rainOf}
 use Rattle.survey.specs.Cells.{cellFrom}
 use Rattle.recharge.specs.declared.cover_day.CoverDay.{CoverDay}
+use Rattle.recharge.specs.declared.cover_day.Fallen.{Fallen}
 
 -- rules 2 and 3 on land; on open water nothing is held back, and all of gross precipitation is rain
 unfoldable pub heldOf : Today → Cell → ℕ
@@ -31,6 +32,11 @@ pub record Shared (c : Cell) (t : Today) (r : CoverDay) : Type 0 where
   pub rain : r .rain .0 ≡ wetOf t c
   pub snowfall : r .snowfall .0 ≡ fallOf t c
   pub code : r .code ≡ codeOf t c
+
+-- the part of them that the last pass reads
+pub record Fell (c : Cell) (t : Today) (r : Fallen) : Type 0 where
+  pub held : r .held .0 ≡ heldOf t c
+  pub snowfall : r .snowfall .0 ≡ fallOf t c
 
 -- an array that has the figure of each slot's cells
 pub record BySlot (covers : List ℕ) (figure : Cell → ℕ) (numbers : List ℕ) : Type 0 where

@@ -1,12 +1,10 @@
 -- The code's numbers of a cell's ground as the paper's.
-use mathlib.Core.Bool.{Bool, cond}
 use mathlib.Core.Path.{_≡_}
 use Rattle.paper.specs.Setup.{Cell}
 use Rattle.recharge.specs.declared.ground.Ground.{Ground}
 
--- g is the ground of cell c, in the growing season or out of it
-pub record Stands (c : Cell) (growing : Bool) (g : Ground) : Type 0 where
+-- g is the ground of cell c
+pub record Stands (c : Cell) (g : Ground) : Type 0 where
   pub open? : g .«open_water» ≡ c .open?
   pub capacity : g .capacity .0 ≡ c .capacity
   pub largest : g .largest .0 ≡ c .largest
-  pub figure : g .figure .0 ≡ cond growing (c .growingFigure) (c .dormantFigure)

@@ -1,19 +1,10 @@
 -- A cell's own water as the code works it out.
-use mathlib.Core.Path.{_≡_}
 use mathlib.Core.List.{List}
-use Prim.Native.Nat.{ℕ, _+_, _-_, _≤_, _<_}
+use mathlib.Core.Path.{_≡_}
+use Prim.Native.Nat.{ℕ, _+_, _≤_, _<_}
 use lib.ListN.{length, getD}
 use Rattle.paper.specs.Limits.{mostCells, mostGross}
 use Rattle.paper.specs.Snow.{melt}
-use Rattle.paper.specs.Setup.{Cell}
-use Rattle.paper.specs.CellDay.{Today, interceptedOf, rainOf, storeOf, meltOf}
-use Rattle.recharge.specs.declared.own_water.Brought.{Brought}
-
--- rules 2 to 4 on land: what is held back, rain and melt, and the store that the melt left
-pub record Brings (c : Cell) (t : Today) (before : ℕ) (b : Brought) : Type 0 where
-  pub intercepted : b .intercepted .0 ≡ interceptedOf c t
-  pub water : b .water .0 ≡ rainOf c t + meltOf c t before
-  pub snow : b .snow .0 ≡ storeOf c t before - meltOf c t before
 
 -- more than any day's maximum melts
 abbrev pub meltLimit : ℕ

@@ -15,6 +15,7 @@ use Rattle.paper.specs.Day as paper
 use Rattle.recharge.specs.Depths.{waterLimit}
 use Rattle.recharge.specs.Retention.{table}
 use Rattle.survey.specs.Cells.{cellIn, SlotsFit}
+use Rattle.recharge.specs.CoverDay.{heldOf, fallOf, BySlot}
 use Rattle.recharge.specs.CellDay.{figuresFrom}
 use Rattle.records.specs.declared.answers.Totals.{Totals}
 
@@ -81,13 +82,15 @@ goneIn covers slots ways i = eqb (openOf covers (getD slots i 0 / 4)) 1 || eqb (
 -- one entry a cell in each lent slice, stores within their limits, and the outflow for the water that reached each cell
 pub record Ready
     (t : Today)
-    (f covers slots ways reached water soil snow intercepted outflow evapotranspired recharged rejected : List ℕ)
+    (f covers slots ways heldBy fallBy reached water soil snow intercepted outflow evapotranspired recharged rejected : List ℕ)
     : Type 0 where
   pub gross : t .gross ≤ mostGross
   pub potential : t .potential ≤ mostPotential
   pub retained : f ≡ table
   pub cells : SlotsFit covers (length water) slots water
   pub pointed : length ways ≡ 4096
+  pub held-is : BySlot covers (heldOf t) heldBy
+  pub fall-is : BySlot covers (fallOf t) fallBy
   pub soils : length soil ≡ length water
   pub snows : length snow ≡ length water
   pub interceptions : length intercepted ≡ length water

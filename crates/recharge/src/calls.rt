@@ -181,7 +181,7 @@ fn fill(covers: &[u32], slots: &[u32; 4096], water: &[u32], soil: &mut [u32], sn
 {
     let mut i = 0;
     while i < water.len() {
-        let ground = ground_at(covers, place(slots[i]), wide(water[i]), true);
+        let ground = ground_at(covers, place(slots[i]), wide(water[i]));
         soil[i] = full(ground.open_water, ground.capacity);
         snow[i] = 0;
         i += 1;

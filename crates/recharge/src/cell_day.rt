@@ -4,12 +4,14 @@ ghost use Rattle.paper.specs.Setup.{Cell};
 ghost use Rattle.paper.specs.CellDay.{passedOf};
 ghost use Rattle.records.specs.Calls.{todayOf};
 ghost use Rattle.recharge.specs.CellDay.{figuresFrom, figuresOf, CellReady};
+ghost use Rattle.recharge.specs.CoverDay.{Fell};
 ghost use Rattle.recharge.specs.Ground.{Stands};
+use crate::cover_day::Fallen;
 use crate::ground::Ground;
-use crate::own_water::bring;
 use crate::soil::soil_day;
 use records::Depth;
 use records::Today;
+use records::melt;
 
 pub(crate) struct Figures {
     pub(crate) intercepted: Depth,
@@ -26,13 +28,14 @@ pub(crate) fn cell_day(
     f: &[u32; 2049],
     today: Today,
     ground: Ground,
+    fallen: Fallen,
     soil: Depth,
     snow: Depth,
     reached: Depth,
     outflow: Depth,
 ) -> Figures
-    requires { ⌜ CellReady (todayOf today) (ground .capacity .0) (soil .0) (snow .0) (reached .0) (now f) ⌝ }
-    ensures { λ r. ⌜ ((c : Cell) → Stands c (today .growing) ground → outflow .0 ≡ passedOf c (todayOf today) (reached .0) → figuresOf r ≡ figuresFrom c (todayOf today) (soil .0) (snow .0) (reached .0)) ⌝ }
+    requires { ⌜ CellReady (todayOf today) (ground .capacity .0) (fallen .snowfall .0) (soil .0) (snow .0) (reached .0) (now f) ⌝ }
+    ensures { λ r. ⌜ ((c : Cell) → Stands c ground → Fell c (todayOf today) fallen → outflow .0 ≡ passedOf c (todayOf today) (reached .0) → figuresOf r ≡ figuresFrom c (todayOf today) (soil .0) (snow .0) (reached .0)) ⌝ }
 {
     if ground.open_water {
         return Figures {
@@ -47,9 +50,11 @@ pub(crate) fn cell_day(
     }
     let capacity = ground.capacity;
     let largest = ground.largest;
-    let figure = ground.figure;
+    let held = fallen.held;
     let potential = today.potential;
-    let brought = bring(today, figure, snow);
+    let meltable = today.meltable;
+    let store = Depth(snow.0 + fallen.snowfall.0);
+    let lying = store.beyond(melt(store, meltable));
     let below = soil_day(
         f,
         capacity,
@@ -58,12 +63,10 @@ pub(crate) fn cell_day(
         reached.beyond(outflow),
         potential,
     );
-    let held = brought.intercepted;
     let evapotranspired = below.evapotranspired;
     let recharged = below.recharged;
     let rejected = below.rejected;
     let kept = below.soil;
-    let lying = brought.snow;
     Figures {
         intercepted: held,
         outflow,

@@ -1,7 +1,7 @@
 // Rules 1 to 3 and 5 on each cover and soil group, once a day: all that cells of one slot share.
 ghost use mathlib.Core.Path.{_≡_};
 ghost use Prim.Native.Nat.{ℕ, _*_, _≤_, _<_};
-ghost use lib.ListN.{length};
+ghost use lib.ListN.{length, getD};
 ghost use Rattle.paper.specs.Limits.{mostGross};
 ghost use Rattle.paper.specs.Covers.{entries};
 ghost use Rattle.records.specs.Calls.{todayOf};
@@ -15,6 +15,7 @@ use crate::ground::table_number;
 use crate::interception::intercepted;
 use records::Depth;
 use records::Today;
+use records::depth;
 
 // The code is the curve number in today's condition, or 101 on open water.
 struct CoverDay {
@@ -55,6 +56,22 @@ fn cover_day(today: Today, covers: &[u32], slot: usize) -> CoverDay
         rain: net,
         snowfall: Depth(0),
         code,
+    }
+}
+
+// What the last pass asks of a cell's slot: what its cover holds back, and the snowfall.
+pub(crate) struct Fallen {
+    pub(crate) held: Depth,
+    pub(crate) snowfall: Depth,
+}
+
+pub(crate) fn fallen_at(held: &[u32; 256], snowfall: &[u32; 256], slot: usize) -> Fallen
+    requires { ⌜ slot < 256 ⌝ }
+    ensures { λ r. ⌜ (r .held .0 ≡ getD (now (held .entry)) slot 0) × (r .snowfall .0 ≡ getD (now (snowfall .entry)) slot 0) ⌝ }
+{
+    Fallen {
+        held: depth(held[slot]),
+        snowfall: depth(snowfall[slot]),
     }
 }
 

@@ -11,12 +11,11 @@ ghost use Rattle.recharge.specs.Ground.{Stands};
 use records::CurveNumber;
 use records::Depth;
 
-// What rules 2, 7 and 8 ask of the ground, in the day's season.
+// What rules 1, 7 and 8 ask of the ground.
 pub(crate) struct Ground {
     pub(crate) open_water: bool,
     pub(crate) capacity: Depth,
     pub(crate) largest: Depth,
-    pub(crate) figure: Depth,
 }
 
 fn number(covers: &[u32], slot: usize, k: usize) -> u64
@@ -51,9 +50,9 @@ pub(crate) fn season_figure(covers: &[u32], slot: usize, growing: bool) -> Depth
     Depth(number(covers, slot, 11))
 }
 
-pub(crate) fn ground_at(covers: &[u32], slot: usize, water: u64, growing: bool) -> Ground
+pub(crate) fn ground_at(covers: &[u32], slot: usize, water: u64) -> Ground
     requires { ⌜ EntriesFit (now covers) × (slot < 4 * entries (now covers)) × (water ≤ mostAvailableWater) ⌝ }
-    ensures { λ r. ⌜ ((way : ℕ) → Stands (cellFrom (now (covers .entry)) slot water way) growing r) ⌝ }
+    ensures { λ r. ⌜ ((way : ℕ) → Stands (cellFrom (now (covers .entry)) slot water way) r) ⌝ }
 {
     let group = slot % 4 + 1;
     let root_depth = number(covers, slot, 11 + group);
@@ -62,6 +61,5 @@ pub(crate) fn ground_at(covers: &[u32], slot: usize, water: u64, growing: bool) 
         open_water: is_open(covers, slot),
         capacity: Depth(water * root_depth),
         largest: Depth(largest),
-        figure: season_figure(covers, slot, growing),
     }
 }

@@ -3,49 +3,12 @@ ghost use mathlib.Core.Path.{_≡_};
 ghost use Prim.Native.Nat.{_≤_};
 ghost use lib.ListN.{length};
 ghost use Rattle.theory.specs.Lists.{madeOver};
-ghost use Rattle.paper.specs.Limits.{mostGross, mostSnow};
-ghost use Rattle.paper.specs.Setup.{Cell};
-ghost use Rattle.paper.specs.CellDay.{figureOf};
-ghost use Rattle.records.specs.Calls.{todayOf};
-ghost use Rattle.recharge.specs.OwnWater.{Brings, meltLimit, ownBy, ownAt, OwnReady};
-use crate::interception::intercepted;
+ghost use Rattle.paper.specs.Limits.{mostGross};
+ghost use Rattle.recharge.specs.OwnWater.{meltLimit, ownBy, ownAt, OwnReady};
 use records::Depth;
-use records::Today;
 use records::melt;
 use records::place;
 use records::wide;
-
-// What the day brings to a cell on land: what its cover holds back, rain and melt, and the snow that stays.
-pub(crate) struct Brought {
-    pub(crate) intercepted: Depth,
-    pub(crate) water: Depth,
-    pub(crate) snow: Depth,
-}
-
-pub(crate) fn bring(today: Today, figure: Depth, snow: Depth) -> Brought
-    requires { ⌜ (today .gross .0 ≤ mostGross) × (snow .0 ≤ mostSnow) ⌝ }
-    ensures { λ r. ⌜ ((c : Cell) → figure .0 ≡ figureOf c (todayOf today) → Brings c (todayOf today) (snow .0) r) ⌝ }
-{
-    let gross = today.gross;
-    let most = today.meltable;
-    let held = intercepted(gross, figure);
-    let net = gross.beyond(held);
-    if today.snows {
-        let store = Depth(snow.0 + net.0);
-        let melted = melt(store, most);
-        return Brought {
-            intercepted: held,
-            water: melted,
-            snow: store.beyond(melted),
-        };
-    }
-    let melted = melt(snow, most);
-    Brought {
-        intercepted: held,
-        water: Depth(net.0 + melted.0),
-        snow: snow.beyond(melted),
-    }
-}
 
 // Rain and melt.
 fn own_at(rain: u32, snowfall: u32, snow: u32, meltable: Depth) -> u32

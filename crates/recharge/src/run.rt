@@ -51,6 +51,8 @@ pub(crate) fn run(
         covers,
         slots,
         ways,
+        &held,
+        &snowfall,
         &reached,
         water,
         soil,

@@ -12,6 +12,7 @@ ghost use Rattle.recharge.specs.CellDay.{figuresOf, Fit32};
 ghost use Rattle.recharge.specs.Settle.{totalsIn, Room, withCell, figureIn, goneIn, Ready, Settled};
 use crate::cell_day::Figures;
 use crate::cell_day::cell_day;
+use crate::cover_day::fallen_at;
 use crate::ground::ground_at;
 use records::Depth;
 use records::Today;
@@ -69,6 +70,8 @@ pub(crate) fn settle(
     covers: &[u32],
     slots: &[u32; 4096],
     ways: &[u32; 4096],
+    held: &[u32; 256],
+    snowfall: &[u32; 256],
     reached: &[u32; 4096],
     water: &[u32],
     soil: &mut [u32],
@@ -79,21 +82,23 @@ pub(crate) fn settle(
     recharged: &mut [u32],
     rejected: &mut [u32],
 ) -> Totals
-    requires { ⌜ Ready (todayOf today) (now f) (now covers) (now slots) (now ways) (now reached) (now water) (now soil) (now snow) (now intercepted) (now outflow) (now evapotranspired) (now recharged) (now rejected) ⌝ }
+    requires { ⌜ Ready (todayOf today) (now f) (now covers) (now slots) (now ways) (now held) (now snowfall) (now reached) (now water) (now soil) (now snow) (now intercepted) (now outflow) (now evapotranspired) (now recharged) (now rejected) ⌝ }
     ensures { λ r. ⌜ Settled (length (now (water .entry))) (today .gross .0) (figureIn (todayOf today) (now (covers .entry)) (now (slots .entry)) (now (water .entry)) (now (ways .entry)) (now (reached .entry)) (now (soil .entry)) (now (snow .entry))) (goneIn (now (covers .entry)) (now (slots .entry)) (now (ways .entry))) r (now (soil .exit)) (now (snow .exit)) (now (intercepted .exit)) (now (evapotranspired .exit)) (now (recharged .exit)) (now (rejected .exit)) ⌝ }
 {
     let gross = today.gross;
-    let growing = today.growing;
     let mut totals = none_yet();
     let mut i = 0;
     while i < water.len() {
-        let ground = ground_at(covers, place(slots[i]), wide(water[i]), growing);
+        let slot = place(slots[i]);
+        let ground = ground_at(covers, slot, wide(water[i]));
+        let fallen = fallen_at(held, snowfall, slot);
         let arrived = depth(reached[i]);
         let out = depth(outflow[i]);
         let day = cell_day(
             f,
             today,
             ground,
+            fallen,
             depth(soil[i]),
             depth(snow[i]),
             arrived,

@@ -24,8 +24,7 @@ fn stores_fit(covers: &[u32], slot: usize, water: u64, soil: u32, snow: u32) -> 
     requires { ⌜ EntriesFit (now covers) × (slot < 4 * entries (now covers)) × (water ≤ mostAvailableWater) ⌝ }
     ensures { λ r. ⌜ r ≡ storesFrom (now (covers .entry)) slot water soil snow ⌝ }
 {
-    // The season has no say in the limits of a store.
-    let ground = ground_at(covers, slot, water, true);
+    let ground = ground_at(covers, slot, water);
     if ground.open_water {
         if soil != 0 {
             return false;

@@ -81,7 +81,7 @@ loop-less c = search needs
 loop-again : tie.Need-loop-again Inv-loop μ-loop
 loop-again c = (
   search needs,
-  rw (add-one, c .before .before .before .before .before .before .before .loop .inv .1, filled-is _ _ _ _ (c .before .ground-at .ensures 0) (c .full .ensures), c .before .before .before .before .place .ensures, c .before .before .wide .ensures) (over-more _ _ _ (omega (arith, c .before .before .before .before .before .before .before .loop .inv .3))),
+  rw (add-one, c .before .before .before .before .before .before .before .loop .inv .1, filled-is _ _ _ (c .before .ground-at .ensures 0) (c .full .ensures), c .before .before .before .before .place .ensures, c .before .before .wide .ensures) (over-more _ _ _ (omega (arith, c .before .before .before .before .before .before .before .loop .inv .3))),
   rw (add-one, c .before .before .before .before .before .before .before .loop .inv .2) (over-more {A = ℕ} _ _ _ (omega (arith, c .before .before .before .before .before .before .before .loop .inv .4))),
   c .before .before .before .before .before .before .before .loop .inv .3,
   c .before .before .before .before .before .before .before .loop .inv .4,

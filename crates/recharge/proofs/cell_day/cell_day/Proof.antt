@@ -2,32 +2,48 @@
 -- paper's figures.
 use mathlib.Core.Path.{sym, _∙_}
 use borrow.Author.Needs.{needs}
-use Rattle.paper.specs.CellDay.{figureOf}
+use Rattle.records.specs.Calls.{todayOf}
 use Rattle.recharge.proofs.FigureLaws.{open-figures, land-figures}
+use Rattle.recharge.proofs.CoverDayLaws.{land-held, land-snow}
 use Rattle.recharge.proofs.cell_day.cell_day.Statement.{statement}
 use Rattle.recharge.proofs.cell_day.cell_day.Tie as tie
 
 returns : tie.Need-returns
-returns c = λ cell st p. open-figures cell _ _ _ _ _ (sym (st .open?) ∙ c .if1 .taken) p
+returns c = λ cell st fell p. open-figures cell _ _ _ _ _ (sym (st .open?) ∙ c .if1 .taken) p
 
-bring-requires : tie.Need-bring-requires
-bring-requires c κs = search needs
+add-t28 : tie.Need-add-t28
+add-t28 c = search needs
+
+melt-requires : tie.Need-melt-requires
+melt-requires c κs = search needs
 
 beyond-requires : tie.Need-beyond-requires
 beyond-requires c κs = search needs
+
+beyond-requires-2 : tie.Need-beyond-requires-2
+beyond-requires-2 c κs = search needs
 
 soil-day-requires : tie.Need-soil-day-requires
 soil-day-requires c κs = search needs
 
 returns-2 : tie.Need-returns-2
-unfolding figureOf
-returns-2 c = λ cell st p.
-    let d = c .before .before .before .before .before .before in
-    let s = d .before .before .before .before .before .before .before in
-    let b = d .before .before .bring .ensures cell (st .figure) in
-    land-figures cell _ _ _ _ _ _ _ _ _ _ _ (sym (st .open?) ∙ s .if1 .left) (b .intercepted) p
-    (st .capacity) (st .largest) (d .before .beyond .ensures) (d .soil-day .ensures) (b .snow)
+returns-2 c = λ cell st fell p.
+    let d = c .before .before .before .before in
+    let m = d .before .before .before in
+    let s = m .before .before .before .before .before .before .before .before in
+    let t = todayOf (s .before .args .today) in
+    let dry = sym (st .open?) ∙ s .if1 .left in
+    land-figures cell t _ _ _ _ _ _ _ _ _ _ dry (fell .held ∙ land-held cell t dry) p (st .capacity) (st .largest) (d .before .beyond2 .ensures)
+    (d .soil-day .ensures) (d .before .before .beyond .ensures ∙ land-snow cell t _ _ _ dry (fell .snowfall) (m .melt .ensures))
 
 pub cell-day-spec : {M : Type 1} → statement M
 cell-day-spec =
-    tie.close (tie.spec returns bring-requires beyond-requires soil-day-requires returns-2)
+    tie.close
+    (tie.spec
+    returns
+    add-t28
+    melt-requires
+    beyond-requires
+    beyond-requires-2
+    soil-day-requires
+    returns-2)

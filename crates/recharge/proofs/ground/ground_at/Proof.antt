@@ -27,24 +27,20 @@ number-requires-2 c κs = search needs
 is-open-requires : tie.Need-is-open-requires
 is-open-requires c κs = search needs
 
-mul-t10 : tie.Need-mul-t10
-mul-t10 c =
+mul-t9 : tie.Need-mul-t9
+mul-t9 c =
     let p = c .before .before .before .before .pre in
     rw (c .before .before .number .ensures) (omega (arith, mul-le-mul (p .2) (root-depth-limit _ (p .0) _ (p .1))))
-
-season-figure-requires : tie.Need-season-figure-requires
-season-figure-requires c κs = search needs
 
 returns : tie.Need-returns
 unfolding cellFrom
 returns c =
     λ way.
-    let s = c .before .before .before .before .before in
+    let s = c .before .before .before .before in
     record {
-      open? = c .before .is-open .ensures;
-      capacity = ap (λ (x : ℕ). s .args .water * x) (c .before .before .before .number .ensures);
-      largest = c .before .before .number2 .ensures;
-      figure = c .season-figure .ensures;
+      open? = c .is-open .ensures;
+      capacity = ap (λ (x : ℕ). s .args .water * x) (c .before .before .number .ensures);
+      largest = c .before .number2 .ensures;
     }
 
 pub ground-at-spec : {M : Type 1} → statement M
@@ -57,6 +53,5 @@ ground-at-spec =
     add-number-2
     number-requires-2
     is-open-requires
-    mul-t10
-    season-figure-requires
+    mul-t9
     returns)

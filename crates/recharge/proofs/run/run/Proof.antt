@@ -33,7 +33,7 @@ retention-requires c κs = search needs
 
 settle-requires : tie.Need-settle-requires
 settle-requires c κs =
-    let at-retention = c .before .before .before .before .before .before .before .before .before in
+    let at-retention = c .before .before .before .before .before .before .before .before .before .before .before in
     let r = at-retention .before .before .before in
     let o = owned r in
     let d = covered o in
@@ -51,7 +51,7 @@ same-length-3 c = search needs
 
 same-length-4 : tie.Need-same-length-4
 same-length-4 c =
-    let r = c .before .before .before .before .before .before .before .before .before .before .before .before .before .before .before .before .before .before .before .before .before .before .before .before .before in
+    let r = c .before .before .before .before .before .before .before .before .before .before .before .before .before .before .before .before .before .before .before .before .before .before .before .before .before .before .before in
     let o = owned r in
     let d = covered o in
     one-each _ _ _ _ _ _ _ _ _ _ _ _ _ (start d .pre) _ _ _ _ (d .cover-days .ensures) _ (o .own-water .ensures) _ _ (r .route .ensures)
@@ -68,7 +68,7 @@ same-length-7 c = search needs
 returns : tie.Need-returns
 returns c =
     let at-settle = c .before .before .before .before .before .before .before .before .before .before .before .before in
-    let r = at-settle .before .before .before .before .before .before .before .before .before .before .before .before .before in
+    let r = at-settle .before .before .before .before .before .before .before .before .before .before .before .before .before .before .before in
     let o = owned r in
     let d = covered o in
     ran _ _ _ _ _ _ _ _ _ _ _ _ _ (start d .pre) _ _ _ _ (d .cover-days .ensures) _ (o .own-water .ensures)

@@ -9,21 +9,22 @@ use Rattle.theory.specs.Sums.{given}
 use Rattle.paper.specs.CellDay as days
 use Rattle.records.specs.Calls.{todayOf}
 use Rattle.survey.specs.Cells.{cellIn}
+use Rattle.recharge.specs.CoverDay.{Fell}
 use Rattle.recharge.specs.Ground.{Stands}
 use Rattle.recharge.specs.CellDay.{figuresOf, Fit32}
 use Rattle.recharge.specs.Settle.{totalsIn, figureIn, goneIn}
 use Rattle.recharge.proofs.LoopLaws.{still}
-use Rattle.recharge.proofs.SettleLaws.{Progress, progress-none, progress-more, progress-room, progress-end, ready-slot, ready-stands, ready-cell, ready-figures, ready-fits, ready-gone, gone-most}
+use Rattle.recharge.proofs.SettleLaws.{Progress, progress-none, progress-more, progress-room, progress-end, ready-slot, ready-inside, ready-stands, ready-fell, ready-cell, ready-figures, ready-fits, ready-gone, gone-most}
 use Rattle.recharge.proofs.settle.settle.Statement.{statement}
 use Rattle.recharge.proofs.settle.settle.Tie as tie
 
 abbrev Inv-loop : tie.InvT-loop
-Inv-loop today f covers slots ways reached water soil₀ snow₀ intercepted₀ outflow evapotranspired₀ recharged₀ rejected₀ gross growing totals₀ i₀ soil snow intercepted evapotranspired recharged rejected totals i =
+Inv-loop today f covers slots ways held snowfall reached water soil₀ snow₀ intercepted₀ outflow evapotranspired₀ recharged₀ rejected₀ gross totals₀ i₀ soil snow intercepted evapotranspired recharged rejected totals i =
     Progress (length water) i (today .gross .0) (figureIn (todayOf today) covers slots water ways reached soil₀ snow₀) (goneIn covers slots ways) (totalsIn totals)
     soil₀ snow₀ intercepted₀ evapotranspired₀ recharged₀ rejected₀ soil snow intercepted evapotranspired recharged rejected
 
 abbrev μ-loop : tie.MeasureT-loop
-μ-loop today f covers slots ways reached water soil₀ snow₀ intercepted₀ outflow evapotranspired₀ recharged₀ rejected₀ gross growing totals₀ i₀ soil snow intercepted evapotranspired recharged rejected totals i =
+μ-loop today f covers slots ways held snowfall reached water soil₀ snow₀ intercepted₀ outflow evapotranspired₀ recharged₀ rejected₀ gross totals₀ i₀ soil snow intercepted evapotranspired recharged rejected totals i =
     length water - i
 
 -- a turn's places: the test, the ground that was found, the cell's figures, and what of its outflow is gone
@@ -34,7 +35,7 @@ abbrev turn : tie.After-ground-at Inv-loop μ-loop → tie.In-loop Inv-loop μ-l
 turn c = c .before .before .before .before .before
 
 abbrev grounded : tie.After-cell-day Inv-loop μ-loop → tie.After-ground-at Inv-loop μ-loop
-grounded c = c .before .before .before .before .before .before .before .before .before
+grounded c = c .before .before .before .before .before .before .before .before .before .before
 
 abbrev dayed : tie.After-gone-from Inv-loop μ-loop → tie.After-cell-day Inv-loop μ-loop
 dayed c = c .before .before
@@ -46,11 +47,21 @@ small c = omega arith
 standing : (c : tie.After-ground-at Inv-loop μ-loop)
     → let l = turn c .before in
     let a = start l .args in
-    Stands (cellIn (a .covers .now) (a .slots .now) (a .water .now) (a .ways .now) (l .loop .i)) (a .today .growing) (c .ground-at .result)
+    Stands (cellIn (a .covers .now) (a .slots .now) (a .water .now) (a .ways .now) (l .loop .i)) (c .ground-at .result)
 standing c =
     let l = turn c .before in
-    ready-stands (start l .pre) (l .loop .i) (turn c .loop-test .taken) _ _ _ _ (c .before .before .before .place .ensures) (c .before .wide .ensures)
+    ready-stands (start l .pre) (l .loop .i) (turn c .loop-test .taken) _ _ _ (c .before .before .before .place .ensures) (c .before .wide .ensures)
     (c .ground-at .ensures)
+
+-- and so is what its slot says of the day
+fallen : (c : tie.After-fallen-at Inv-loop μ-loop)
+    → let l = turn (c .before) .before in
+    let a = start l .args in
+    Fell (cellIn (a .covers .now) (a .slots .now) (a .water .now) (a .ways .now) (l .loop .i)) (todayOf (a .today)) (c .fallen-at .result)
+fallen c =
+    let g = c .before in
+    let l = turn g .before in
+    ready-fell (start l .pre) (l .loop .i) (turn g .loop-test .taken) _ _ (g .before .before .before .place .ensures) (c .fallen-at .ensures)
 
 -- the cell's figures, from the stores that no turn has touched yet
 figured : (c : tie.After-cell-day Inv-loop μ-loop)
@@ -66,7 +77,7 @@ figured c =
     (c .before .depth4 .ensures ∙ still _ _ _ _ (p .snow))
     (c .before .before .before .before .before .before .before .depth .ensures)
     (c .before .before .before .before .before .depth2 .ensures)
-    (c .cell-day .ensures _ (standing (grounded c)))
+    (c .cell-day .ensures _ (standing (grounded c)) (fallen (c .before .before .before .before .before .before .before .before .before)))
 
 fits : (c : tie.After-cell-day Inv-loop μ-loop) → Fit32 (figuresOf (c .cell-day .result))
 fits c =
@@ -83,7 +94,7 @@ left : (c : tie.After-gone-from Inv-loop μ-loop)
 left c =
     let d = dayed c in
     let l = turn (grounded d) .before in
-    ready-gone (start l .pre) (l .loop .i) (turn (grounded d) .loop-test .taken) _ _ _ _ (standing (grounded d))
+    ready-gone (start l .pre) (l .loop .i) (turn (grounded d) .loop-test .taken) _ _ _ (standing (grounded d))
     (d .before .before .before .before .before .depth2 .ensures) (c .gone-from .ensures)
 
 none-yet-requires : tie.Need-none-yet-requires Inv-loop μ-loop
@@ -125,6 +136,11 @@ ground-at-requires c κs =
     let l = c .before .before .before .before .before in
     ready-slot (start l .pre) (l .loop .i) (c .before .before .before .before .loop-test .taken) _ _ (c .before .before .place .ensures) (c .wide .ensures)
 
+fallen-at-requires : tie.Need-fallen-at-requires Inv-loop μ-loop
+fallen-at-requires c κs =
+    let l = turn c .before in
+    ready-inside (start l .pre) (l .loop .i) (turn c .loop-test .taken) _ (c .before .before .before .place .ensures)
+
 mul-depth : tie.Need-mul-depth Inv-loop μ-loop
 mul-depth c = omega arith
 
@@ -139,8 +155,8 @@ mul-depth-2 c = omega arith
 
 shared-slice-read-depth : tie.Need-shared-slice-read-depth Inv-loop μ-loop
 shared-slice-read-depth c =
-    let l = c .before .before .before .before .before .before .before .before .before in
-    let h = c .before .before .before .before .before .before .before .before .loop-test .taken in
+    let l = c .before .before .before .before .before .before .before .before .before .before in
+    let h = c .before .before .before .before .before .before .before .before .before .loop-test .taken in
     omega (arith, start l .pre .outflows)
 
 depth-requires-2 : tie.Need-depth-requires-2 Inv-loop μ-loop
@@ -159,17 +175,20 @@ mul-depth-4 : tie.Need-mul-depth-4 Inv-loop μ-loop
 mul-depth-4 c = omega arith
 
 slice-read-depth-2 : tie.Need-slice-read-depth-2 Inv-loop μ-loop
-slice-read-depth-2 c = omega arith
+slice-read-depth-2 c =
+    let t = turn (c .before .before .before .before .before .before .before .before) in
+    omega (arith, t .loop-test .taken, t .before .loop .inv .sized .snow)
 
 depth-requires-4 : tie.Need-depth-requires-4 Inv-loop μ-loop
 depth-requires-4 c κs = search needs
 
 cell-day-requires : tie.Need-cell-day-requires Inv-loop μ-loop
 cell-day-requires c κs =
-    let g = c .before .before .before .before .before .before .before .before in
+    let w = c .before .before .before .before .before .before .before .before in
+    let g = w .before in
     let l = turn g .before in
     let p = l .loop .inv in
-    ready-cell (start l .pre) (l .loop .i) (turn g .loop-test .taken) _ _ _ _ _ (standing g)
+    ready-cell (start l .pre) (l .loop .i) (turn g .loop-test .taken) _ _ _ _ _ (standing g) (fallen w)
     (c .before .before .depth3 .ensures ∙ still _ _ _ _ (p .soil))
     (c .depth4 .ensures ∙ still _ _ _ _ (p .snow))
     (c .before .before .before .before .before .before .depth .ensures)
@@ -335,6 +354,7 @@ settle-spec =
     shared-slice-read-wide
     wide-requires
     ground-at-requires
+    fallen-at-requires
     mul-depth
     element-copy-out-depth
     depth-requires

@@ -1,5 +1,4 @@
 -- `stores::stores_fit` meets its contract: each way out has the tests that led there, of the ground that the slot finds.
-use mathlib.Core.Bool.{true}
 use borrow.Author.Needs.{needs}
 use borrow.Author.Tests.{le-leb, lt-leb, eq-eqb, ne-eqb}
 use Rattle.recharge.proofs.StoreLaws.{stores-open, stores-land}
@@ -15,7 +14,7 @@ returns c =
     let at-ground-at = at-if1 .before in
     let a = at-ground-at .before .before .args in
     let soil = c .if2 .taken in
-    rw (ne-eqb _ _ soil) at (stores-open (a .covers .now) (a .slot) (a .water) 0 (a .soil) (a .snow) true _ (at-ground-at .ground-at .ensures 0) (at-if1 .if1 .taken))
+    rw (ne-eqb _ _ soil) at (stores-open (a .covers .now) (a .slot) (a .water) 0 (a .soil) (a .snow) _ (at-ground-at .ground-at .ensures 0) (at-if1 .if1 .taken))
 
 returns-2 : tie.Need-returns-2
 returns-2 c =
@@ -23,7 +22,7 @@ returns-2 c =
     let at-ground-at = at-if1 .before in
     let a = at-ground-at .before .before .args in
     let soil = c .if2 .left in
-    rw (eq-eqb _ _ soil) at (stores-open (a .covers .now) (a .slot) (a .water) 0 (a .soil) (a .snow) true _ (at-ground-at .ground-at .ensures 0) (at-if1 .if1 .taken))
+    rw (eq-eqb _ _ soil) at (stores-open (a .covers .now) (a .slot) (a .water) 0 (a .soil) (a .snow) _ (at-ground-at .ground-at .ensures 0) (at-if1 .if1 .taken))
 
 wide-requires : tie.Need-wide-requires
 wide-requires c κs = search needs
@@ -35,7 +34,7 @@ returns-3 c =
     let at-ground-at = at-if1 .before in
     let a = at-ground-at .before .before .args in
     let soil = rw (at-wide .wide .ensures) at (c .if3 .taken) in
-    rw (lt-leb _ _ soil) at (stores-land (a .covers .now) (a .slot) (a .water) 0 (a .soil) (a .snow) true _ (at-ground-at .ground-at .ensures 0) (at-if1 .if1 .left))
+    rw (lt-leb _ _ soil) at (stores-land (a .covers .now) (a .slot) (a .water) 0 (a .soil) (a .snow) _ (at-ground-at .ground-at .ensures 0) (at-if1 .if1 .left))
 
 wide-requires-2 : tie.Need-wide-requires-2
 wide-requires-2 c κs = search needs
@@ -49,7 +48,7 @@ returns-4 c =
     let at-ground-at = at-if1 .before in
     let a = at-ground-at .before .before .args in
     let soil = rw (at-wide .wide .ensures) at (at-if3 .if3 .left) in
-    rw (at-wide2 .wide2 .ensures) (rw (le-leb _ _ soil) at (stores-land (a .covers .now) (a .slot) (a .water) 0 (a .soil) (a .snow) true _ (at-ground-at .ground-at .ensures 0) (at-if1 .if1 .left)))
+    rw (at-wide2 .wide2 .ensures) (rw (le-leb _ _ soil) at (stores-land (a .covers .now) (a .slot) (a .water) 0 (a .soil) (a .snow) _ (at-ground-at .ground-at .ensures 0) (at-if1 .if1 .left)))
 
 pub stores-fit-spec : {M : Type 1} → statement M
 stores-fit-spec =
