@@ -267,18 +267,20 @@ queue-start {tail = tail} c g =
       still = λ t h. sym (ahead-on 0 tail t zero-le h);
     }
 
--- the queue with a cell in hand, which is the next to be taken: with it, all is taken but the sources past `head`
-pub record InHand (n : ℕ) (next : ℕ → ℕ) (head sources tail cell : ℕ) (l : List ℕ) : Type 0 where
+-- the queue with a cell in hand, which leads to j and is the next to be taken: with it, all is taken but the sources past `head`
+pub record InHand (n : ℕ) (next : ℕ → ℕ) (head sources tail j : ℕ) (l : List ℕ) : Type 0 where
   pub rest : ℕ → Bool
   pub kept : QueueIn n next rest tail l
   pub behind : sources ≤ tail
+  pub cell : ℕ
+  pub leads-on : next cell ≡ j
   pub inside : cell < n
   pub ready : rest cell ≡ true
   pub free : waits l cell ≡ 0
   pub still : (t : ℕ) → t < tail → without rest cell (queued l t) ≡ ahead (suc head) sources t
 
 pub hand-source : {n : ℕ} {next : ℕ → ℕ} {head sources tail : ℕ} {l : List ℕ} → PeeledIn n next head sources tail l → head < sources
-    → InHand n next head sources tail (queued l head) l
+    → InHand n next head sources tail (next (queued l head)) l
 hand-source {head = head} {sources = sources} {tail = tail} {l = l} p h =
     let q = p .kept .queue in
     let here : head < tail = omega (arith, p .behind) in
@@ -286,6 +288,8 @@ hand-source {head = head} {sources = sources} {tail = tail} {l = l} p h =
       rest = p .rest;
       kept = p .kept;
       behind = p .behind;
+      cell = queued l head;
+      leads-on = refl;
       inside = q .placed head here;
       ready = p .still head here ∙ ahead-on head sources head (le-refl head) h;
       free = q .free head here;
@@ -297,23 +301,29 @@ hand-source {head = head} {sources = sources} {tail = tail} {l = l} p h =
           without-other (p .rest) (queued l head) (queued l t) (λ s. other (q .once head t here a s)) ∙ p .still t a ∙ ahead-next head sources t other);
     }
 
-module _ {n : ℕ} {next : ℕ → ℕ} {head sources tail cell : ℕ} {l : List ℕ} (p : InHand n next head sources tail cell l) (m : n ≤ 4096) where
+module _ {n : ℕ} {next : ℕ → ℕ} {head sources tail j : ℕ} {l : List ℕ} (p : InHand n next head sources tail j l) (m : n ≤ 4096) where
   abbrev peeling : Queue n next (waits l) (queued l) (p .rest) tail
   peeling = p .kept .queue
+
+  abbrev cell : ℕ
+  cell = p .cell
+
+  abbrev e : next cell ≡ j
+  e = p .leads-on
 
   abbrev less-rest : ℕ → Bool
   less-rest = without (p .rest) cell
 
-  pub hand-outside : n ≤ next cell → PeeledIn n next (suc head) sources tail l
+  pub hand-outside : n ≤ j → PeeledIn n next (suc head) sources tail l
   hand-outside o =
       record {
         rest = less-rest;
-        kept = record { sized = p .kept .sized; queue = left-behind peeling cell (p .inside) (p .ready) (p .free) o; blank = p .kept .blank };
+        kept = record { sized = p .kept .sized; queue = left-behind peeling cell (p .inside) (p .ready) (p .free) (rw e o); blank = p .kept .blank };
         behind = p .behind;
         still = p .still;
       }
 
-  module _ (j : ℕ) (e : next cell ≡ j) (i : j < n) where
+  module _ (i : j < n) where
     next-waits : 0 < waits l (next cell)
     next-waits = waiting peeling cell (p .inside) (p .ready) (p .free) (rw e i)
 
@@ -412,7 +422,7 @@ module _ {n : ℕ} {next : ℕ → ℕ} {head sources tail cell : ℕ} {l : List
           byCases (less-rest j) (λ r. r)
           (λ r. absurd (omega (arith, rw e at next-waits, shut peeling cell (p .inside) (p .ready) (p .free) j i r)))
 
-      pub hand-joins : InHand n next head sources (tail + 1) j joined
+      pub hand-joins : InHand n next head sources (tail + 1) (next j) joined
       hand-joins =
           record {
             rest = less-rest;
@@ -425,6 +435,8 @@ module _ {n : ℕ} {next : ℕ → ℕ} {head sources tail cell : ℕ} {l : List
               blank = λ t a b. put-others once-less tail j few unused end t (λ s. omega arith) ∙ less-blank t (omega arith) b;
             };
             behind = omega (arith, p .behind);
+            cell = j;
+            leads-on = refl;
             inside = i;
             ready = next-ready;
             free = joined-waits j ∙ waits-none;

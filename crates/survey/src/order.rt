@@ -47,7 +47,8 @@ fn sources(n: usize, order: &mut [u32; 4096]) -> usize
 }
 
 // Takes the cells that wait for none, and says how many came by: from each source down, for as long as the next cell waits for no other. That
-// one joins the queue and is taken at once, out of a local: through the queue, each step would wait for the last one's stores.
+// one joins the queue and is taken at once, out of a local: through the queue, each step would wait for the last one's stores. Its own way is
+// read before the stores: entry j of both arrays can have the same place in a page, and a read just after such a store waits for it.
 fn peel(n: usize, ways: &[u32; 4096], order: &mut [u32; 4096], sources: usize) -> usize
     requires { ⌜ (WaysIn n (now ways)) × (PeeledIn n (nextIn (now ways)) 0 sources sources (now order)) ⌝ }
     ensures { λ r. ⌜ PeeledIn n (nextIn (now (ways .entry))) sources sources r (now (order .exit)) ⌝ }
@@ -55,13 +56,14 @@ fn peel(n: usize, ways: &[u32; 4096], order: &mut [u32; 4096], sources: usize) -
     let mut tail = sources;
     let mut head = 0;
     while head < sources {
-        let mut cell = place(order[head] % ONE);
+        let cell = place(order[head] % ONE);
+        let mut way = ways[cell];
         loop {
-            let way = ways[cell];
             let j = place(way);
             if n <= j {
                 break;
             }
+            let onward = ways[j];
             let left = order[j] - ONE;
             order[j] = left;
             if ONE <= left {
@@ -69,7 +71,7 @@ fn peel(n: usize, ways: &[u32; 4096], order: &mut [u32; 4096], sources: usize) -
             }
             order[tail] += way;
             tail += 1;
-            cell = j;
+            way = onward;
         }
         head += 1;
     }
