@@ -1,12 +1,11 @@
 -- Tests 9 and 10 of a slot are the paper's of the cell, whichever way it points, and a fall is at most the gross figure.
-use mathlib.Core.Path.{_≡_, refl, sym}
-use mathlib.Core.Bool.{Bool, true, false, _&&_}
+use mathlib.Core.Path.{_≡_, refl}
+use mathlib.Core.Bool.{Bool, true, false, cond, _&&_}
 use mathlib.Core.List.{List}
-use Prim.Native.Nat.{ℕ, zero, suc, _-_, _≤_}
+use Prim.Native.Nat.{ℕ, _-_, _≤_}
 use native.Mathlib.Omega.{arith}
-use lib.Dec.{leb, eqb}
+use lib.Dec.{leb}
 use lib.ListN.{getD}
-use borrow.Author.Tests.{lt-leb, ne-eqb}
 use Rattle.theory.specs.Sums.{given}
 use Rattle.paper.specs.Limits.{mostSnow}
 use Rattle.paper.specs.Interception.{intercepted, net}
@@ -18,9 +17,9 @@ use Rattle.recharge.specs.Stores.{storesFrom, storesAt, fallFrom, deepFr
 use Rattle.recharge.specs.Ground.{Stands}
 use Rattle.recharge.specs.declared.ground.Ground.{Ground}
 
-leb-zero : (n : ℕ) → leb n 0 ≡ eqb n 0
-leb-zero zero = refl
-leb-zero (suc n) = rw (lt-leb (suc n) 0 (omega arith), ne-eqb (suc n) 0 (λ (e : suc n ≡ 0). omega arith))
+pub and-true : (b : Bool) → (b && true) ≡ b
+and-true true = refl
+and-true false = refl
 
 module _ (covers : List ℕ) (slot water way : ℕ) where
   pub stores-any : (soil snow : ℕ)
@@ -29,15 +28,12 @@ module _ (covers : List ℕ) (slot water way : ℕ) where
   unfolding storesFrom mostSoilOf mostSnowOf cellFrom
   stores-any soil snow = refl
 
-  -- by the ground that the slot finds: on open water, past the capacity, and within it
-  module _ (soil snow : ℕ) (g : Ground) (stands : Stands (cellFrom covers slot water way) g) where
-    pub stores-open : g .«open_water» ≡ true → (eqb soil 0 && eqb snow 0) ≡ storesFrom covers slot water soil snow
-    unfolding storesFrom mostSoilOf mostSnowOf cellFrom
-    stores-open wet = rw (sym (stands .open?), wet, leb-zero soil, leb-zero snow) refl
-
-    pub stores-land : g .«open_water» ≡ false → (leb soil (g .capacity .0) && leb snow mostSnow) ≡ storesFrom covers slot water soil snow
-    unfolding storesFrom mostSoilOf mostSnowOf cellFrom
-    stores-land dry = rw (sym (stands .open?), dry, stands .capacity) refl
+  -- by the ground that the slot finds
+  pub stores-limits : (soil snow : ℕ) (g : Ground) → Stands (cellFrom covers slot water way) g → (most deepest : ℕ)
+      → most ≡ cond (g .«open_water») 0 (g .capacity .0) → deepest ≡ cond (g .«open_water») 0 mostSnow
+      → (leb soil most && leb snow deepest) ≡ storesFrom covers slot water soil snow
+  unfolding storesFrom mostSoilOf mostSnowOf cellFrom
+  stores-limits soil snow g stands most deepest e d = rw (e, d, stands .open?, stands .capacity) refl
 
 module _ (covers slots water : List ℕ) (way i : ℕ) where
   pub stores-at : (soil snow : List ℕ)

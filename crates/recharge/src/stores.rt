@@ -1,5 +1,5 @@
 // Test 9's cells and test 10: each cell's stores, found by its slot.
-ghost use mathlib.Core.Bool.{not};
+ghost use mathlib.Core.Bool.{cond, not};
 ghost use mathlib.Core.Path.{_≡_};
 ghost use Prim.Native.Nat.{_*_, _≤_, _<_};
 ghost use lib.ListN.{length};
@@ -20,21 +20,27 @@ use records::Today;
 use records::place;
 use records::wide;
 
+// A store's limit: 0 on open water, by no branch in the search's code, since a processor often guesses a lake wrong.
+fn limit(open_water: bool, most: Depth) -> Depth
+    ensures { λ r. ⌜ r .0 ≡ cond open_water 0 (most .0) ⌝ }
+{
+    if open_water {
+        return Depth(0);
+    }
+    most
+}
+
 fn stores_fit(covers: &[u32], slot: usize, water: u64, soil: u32, snow: u32) -> bool
     requires { ⌜ EntriesFit (now covers) × (slot < 4 * entries (now covers)) × (water ≤ mostAvailableWater) ⌝ }
     ensures { λ r. ⌜ r ≡ storesFrom (now (covers .entry)) slot water soil snow ⌝ }
 {
     let ground = ground_at(covers, slot, water);
-    if ground.open_water {
-        if soil != 0 {
-            return false;
-        }
-        return snow == 0;
-    }
-    if ground.capacity.0 < wide(soil) {
+    let open_water = ground.open_water;
+    let capacity = ground.capacity;
+    if limit(open_water, capacity).0 < wide(soil) {
         return false;
     }
-    wide(snow) <= Depth::MOST_SNOW.0
+    wide(snow) <= limit(open_water, Depth::MOST_SNOW).0
 }
 
 // The lowest cell with a store outside its limits.
@@ -75,11 +81,12 @@ fn is_deep(covers: &[u32], slot: usize, growing: bool, snows: bool, gross: Depth
     requires { ⌜ (slot < 4 * entries (now covers)) × (gross .0 ≤ mostGross) ⌝ }
     ensures { λ r. ⌜ r ≡ deepFrom (now (covers .entry)) slot growing snows (gross .0) snow ⌝ }
 {
-    if is_open(covers, slot) {
+    let fall = fall_at(covers, slot, growing, snows, gross);
+    // The store first: hardly any is deep, and there are many lakes.
+    if wide(snow) + fall.0 <= Depth::MOST_SNOW.0 {
         return false;
     }
-    let fall = fall_at(covers, slot, growing, snows, gross);
-    Depth::MOST_SNOW.0 < wide(snow) + fall.0
+    !is_open(covers, slot)
 }
 
 // The lowest cell whose store the day's snowfall would take past its limit.
