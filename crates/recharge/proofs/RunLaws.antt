@@ -3,20 +3,16 @@
 use mathlib.Core.Path.{_≡_, refl, sym, ap, _∙_}
 use mathlib.Core.Bool.{Bool}
 use mathlib.Core.List.{List}
-use Prim.Native.Nat.{ℕ, _+_, _*_, _≤_, _<_, zero-le}
+use Prim.Native.Nat.{ℕ, _+_, _≤_, _<_}
 use native.Mathlib.Nat.{le-trans, le-of-eq, mul-le-mul-right}
 use native.Mathlib.Omega.{arith}
 use lib.ListN.{length, getD, replicate, length-replicate}
-use Rattle.theory.proofs.Cases.{byCases, cond-true, cond-false}
 use Rattle.theory.specs.Lists.{madeOver}
 use Rattle.theory.specs.Sums.{sum, given}
 use Rattle.theory.proofs.ListLaws.{made-at, made-length, made-cong, over-length}
 use Rattle.theory.proofs.SumLaws.{sum-cong, sum-most}
-use Rattle.paper.specs.Limits.{mostSnow}
 use Rattle.paper.specs.Setup.{Cell}
-use Rattle.paper.specs.State.{mostSnowOf}
-use Rattle.paper.specs.CellDay.{Today, Figures, ownOf, passedOf}
-use Rattle.paper.specs.Covers.{entries}
+use Rattle.paper.specs.CellDay.{Today, Figures, passedOf}
 use Rattle.paper.proofs.CellDayLaws.{own-most}
 use Rattle.paper.proofs.FlowLaws.{water-same}
 use Rattle.survey.specs.Cells.{cellIn, cellFrom}

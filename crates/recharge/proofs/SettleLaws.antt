@@ -14,10 +14,10 @@ use Rattle.theory.specs.Sums.{sum, given}
 use Rattle.theory.proofs.Cases.{byCases, cond-true, cond-false}
 use Rattle.theory.proofs.ListLaws.{over-none, over-all}
 use Rattle.theory.proofs.SumLaws.{sum-most, given-most}
-use Rattle.paper.specs.Limits.{mostCells, mostGross, mostSnow, mostAvailableWater}
+use Rattle.paper.specs.Limits.{mostCells, mostGross, mostAvailableWater}
 use Rattle.paper.specs.Covers.{entries}
 use Rattle.paper.specs.Setup.{Cell}
-use Rattle.paper.specs.State.{mostSoilOf, mostSnowOf}
+use Rattle.paper.specs.State.{mostSoilOf}
 use Rattle.paper.specs.CellDay.{Today, Figures, passedOf}
 use Rattle.paper.specs.Day as paper
 use Rattle.survey.specs.Covers.{EntriesFit}
@@ -33,16 +33,12 @@ use Rattle.survey.proofs.CoverLaws.{count-limit}
 use Rattle.recharge.proofs.CoverDayLaws.{fall-most}
 use Rattle.recharge.proofs.SlotNumbers.{slot-number, slot-capacity}
 use Rattle.recharge.proofs.FigureLaws.{figures-outflow, figures-fit}
+use Rattle.recharge.proofs.StoreLaws.{snow-within}
 use Rattle.recharge.proofs.LoopLaws.{wrote, any-default}
 
 soil-within : (c : Cell) (soil : ℕ) → soil ≤ mostSoilOf c → soil ≤ c .capacity
 unfolding mostSoilOf
 soil-within c soil h =
-    byCases (c .open?) (λ e. omega (arith, rw (cond-true (c .open?) e) at h)) (λ e. rw (cond-false (c .open?) e) at h)
-
-snow-within : (c : Cell) (snow : ℕ) → snow ≤ mostSnowOf c → snow ≤ mostSnow
-unfolding mostSnowOf
-snow-within c snow h =
     byCases (c .open?) (λ e. omega (arith, rw (cond-true (c .open?) e) at h)) (λ e. rw (cond-false (c .open?) e) at h)
 
 -- each cell of a grid that is ready

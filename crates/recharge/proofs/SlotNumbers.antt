@@ -13,7 +13,7 @@ use Rattle.paper.specs.Covers.{curveNumberOf, rootDepthOf, entries, groupFits, 
 use Rattle.paper.specs.CurveNumber.{Condition, curveNumber}
 use Rattle.paper.proofs.CurveNumberLaws.{UpTo100, curve-number-limits}
 use Rattle.survey.specs.Covers.{EntriesFit}
-use Rattle.survey.specs.Cells.{cellFrom, SlotsFit}
+use Rattle.survey.specs.Cells.{cellFrom}
 use Rattle.recharge.specs.Depths.{mostCapacity}
 
 pub whole-entry : (covers : List ℕ) (slot : ℕ) → slot < 4 * entries covers → 16 * (slot / 4) + 16 ≤ length covers

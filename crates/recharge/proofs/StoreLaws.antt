@@ -1,19 +1,23 @@
 -- Tests 9 and 10 of a slot are the paper's of the cell, whichever way it points, and a fall is at most the gross figure.
-use mathlib.Core.Path.{_≡_, refl}
-use mathlib.Core.Bool.{Bool, true, false, cond, _&&_}
+use mathlib.Core.Path.{_≡_, refl, ap, _∙_}
+use mathlib.Core.Bool.{Bool, true, false, cond, not, _&&_}
 use mathlib.Core.List.{List}
-use Prim.Native.Nat.{ℕ, _-_, _≤_}
+use Prim.Native.Nat.{ℕ, _+_, _-_, _≤_}
+use native.Mathlib.Nat.{add-zero}
 use native.Mathlib.Omega.{arith}
 use lib.Dec.{leb}
 use lib.ListN.{getD}
+use borrow.Author.Tests.{le-ltb}
 use Rattle.theory.specs.Sums.{given}
+use Rattle.theory.proofs.Cases.{byCases, cond-true, cond-false, and-second}
 use Rattle.paper.specs.Limits.{mostSnow}
 use Rattle.paper.specs.Interception.{intercepted, net}
+use Rattle.paper.specs.Setup.{Cell}
 use Rattle.paper.specs.State.{mostSoilOf, mostSnowOf}
 use Rattle.paper.specs.CellDay.{Today, figureOf, netOf, storeOf}
 use Rattle.paper.specs.Refusals.{tooDeep}
 use Rattle.survey.specs.Cells.{cellFrom}
-use Rattle.recharge.specs.Stores.{storesFrom, storesAt, fallFrom, deepFrom, deepAt}
+use Rattle.recharge.specs.Stores.{storesFrom, storesAt, fallFrom, deepAt}
 use Rattle.recharge.specs.Ground.{Stands}
 use Rattle.recharge.specs.declared.ground.Ground.{Ground}
 
@@ -47,6 +51,20 @@ module _ (covers slots water : List ℕ) (way i : ℕ) where
       → deepAt covers slots water t snow i ≡ tooDeep (cellFrom covers (getD slots i 0) (getD water i 0) way) t (getD snow i 0)
   unfolding deepAt tooDeep storeOf netOf figureOf cellFrom
   deep-at t snow = refl
+
+-- where no snow falls no store grows
+pub dry-day : (covers slots water snow : List ℕ) (t : Today) → t .snows? ≡ false → (i : ℕ) → getD snow i 0 ≤ mostSnow
+    → deepAt covers slots water t snow i ≡ false
+unfolding deepAt tooDeep storeOf given
+dry-day covers slots water snow t e i h =
+    let c : Cell = cellFrom covers (getD slots i 0) (getD water i 0) 0 in
+    let still : getD snow i 0 + given (t .snows?) (netOf c t) ≡ getD snow i 0 = ap (λ (b : Bool). getD snow i 0 + given b (netOf c t)) e ∙ add-zero (getD snow i 0) in
+    and-second (not (c .open?)) _ (le-ltb mostSnow (getD snow i 0 + given (t .snows?) (netOf c t)) (rw still h))
+
+pub snow-within : (c : Cell) (snow : ℕ) → snow ≤ mostSnowOf c → snow ≤ mostSnow
+unfolding mostSnowOf
+snow-within c snow h =
+    byCases (c .open?) (λ e. omega (arith, rw (cond-true (c .open?) e) at h)) (λ e. rw (cond-false (c .open?) e) at h)
 
 -- what of the gross figure is beyond the interception figure is net
 pub net-beyond : (gross x figure : ℕ) → x ≡ figure → gross - x ≡ net gross figure

@@ -2,14 +2,15 @@
 use mathlib.Core.Path.{_≡_, refl, sym, ap, _∙_}
 use mathlib.Core.Bool.{true, not, _&&_}
 use mathlib.Core.List.{List, [], _∷_, _++_}
-use Prim.Native.Nat.{ℕ, _<_}
+use Prim.Native.Nat.{ℕ, _≤_, _<_}
 use native.Mathlib.Omega.{arith}
 use lib.Dec.{leb}
 use lib.ListN.{length, getD}
-use borrow.Author.Tests.{eqb-true}
-use Rattle.theory.specs.Lowest.{lowest}
+use borrow.Author.Tests.{eqb-true, leb-true, not-false}
+use Rattle.theory.specs.Lowest.{nowhere, lowest}
 use Rattle.theory.proofs.Cases.{and-left, and-right}
-use Rattle.theory.proofs.LowestLaws.{lowest-cong}
+use Rattle.theory.proofs.LowestLaws.{lowest-cong, lowest-none}
+use Rattle.paper.specs.Limits.{mostSnow}
 use Rattle.paper.specs.Setup.{Setup, Cell, cell, cells, next}
 use Rattle.paper.specs.State.{State, Day, storesFit, mostSoilOf, mostSnowOf, snowAt, soilAt}
 use Rattle.paper.specs.CellDay.{Today}
@@ -27,7 +28,7 @@ use Rattle.recharge.specs.Stores.{storesAt, deepAt}
 use Rattle.recharge.specs.Tests.{Testable, Tested}
 use Rattle.survey.proofs.CellLaws.{cell-is}
 use Rattle.survey.proofs.MapLaws.{sound-setup, waters-each, slot-at, slots-fit}
-use Rattle.recharge.proofs.StoreLaws.{stores-at, deep-at}
+use Rattle.recharge.proofs.StoreLaws.{stores-at, snow-within, deep-at}
 
 module _ (s : Setup) (st : State) (slots : List ℕ) (ok : Testable s (st .soil) (st .snow) slots) where
   charted : Charted s
@@ -49,6 +50,15 @@ module _ (s : Setup) (st : State) (slots : List ℕ) (ok : Testable s (st .soil)
       ap (λ (n : ℕ). lowest n (λ i. not (storesAt (s .covers) slots (s .water) (st .soil) (st .snow) i))) waters
       ∙ lowest-cong (cells s) _ _ (λ i h. ap not (stores-at (s .covers) slots (s .water) (next s i) i (st .soil) (st .snow)
       ∙ ap (λ (c : Cell). leb (soilAt st i) (mostSoilOf c) && leb (snowAt st i) (mostSnowOf c)) (cell-of i h)))
+
+  -- no cell has failed test 9
+  pub lying : lowest (length (s .water)) (λ i. not (storesAt (s .covers) slots (s .water) (st .soil) (st .snow) i)) ≡ nowhere
+      → (i : ℕ) → i < length (s .water) → getD (st .snow) i 0 ≤ mostSnow
+  lying e i h =
+      let fits = sym (stores-at (s .covers) slots (s .water) 0 i (st .soil) (st .snow)) ∙ not-false _ (lowest-none (length (s .water)) _ e i h) in
+      let c : Cell = cellFrom (s .covers) (getD slots i 0) (getD (s .water) i 0) 0 in
+      snow-within c (getD (st .snow) i 0)
+      (leb-true _ _ (and-right (leb (getD (st .soil) i 0) (mostSoilOf c)) (leb (getD (st .snow) i 0) (mostSnowOf c)) fits))
 
   pub deep-found : (t : Today) → lowest (length (s .water)) (λ i. deepAt (s .covers) slots (s .water) t (st .snow) i)
       ≡ lowest (cells s) (λ i. tooDeep (cell s i) t (snowAt st i))

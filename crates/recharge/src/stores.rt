@@ -1,10 +1,10 @@
 // Test 9's cells and test 10: each cell's stores, found by its slot.
 ghost use mathlib.Core.Bool.{cond, not};
 ghost use mathlib.Core.Path.{_≡_};
-ghost use Prim.Native.Nat.{_*_, _≤_, _<_};
-ghost use lib.ListN.{length};
+ghost use Prim.Native.Nat.{ℕ, _*_, _≤_, _<_};
+ghost use lib.ListN.{length, getD};
 ghost use Rattle.theory.specs.Lowest.{lowest};
-ghost use Rattle.paper.specs.Limits.{mostAvailableWater, mostGross};
+ghost use Rattle.paper.specs.Limits.{mostAvailableWater, mostGross, mostSnow};
 ghost use Rattle.paper.specs.Covers.{entries};
 ghost use Rattle.records.specs.Calls.{todayOf};
 ghost use Rattle.survey.specs.Covers.{EntriesFit};
@@ -89,7 +89,7 @@ fn is_deep(covers: &[u32], slot: usize, growing: bool, snows: bool, gross: Depth
     !is_open(covers, slot)
 }
 
-// The lowest cell whose store the day's snowfall would take past its limit.
+// The lowest cell whose store the day's snowfall would take past its limit; test 9 has looked at the stores before.
 pub(crate) fn too_deep(
     today: Today,
     covers: &[u32],
@@ -97,12 +97,15 @@ pub(crate) fn too_deep(
     water: &[u32],
     snow: &[u32],
 ) -> Place
-    requires { ⌜ SlotsFit (now covers) (length (now water)) (now slots) (now water) × (length (now snow) ≡ length (now water)) × (today .gross .0 ≤ mostGross) ⌝ }
+    requires { ⌜ SlotsFit (now covers) (length (now water)) (now slots) (now water) × (length (now snow) ≡ length (now water)) × (today .gross .0 ≤ mostGross) × ((i : ℕ) → i < length (now water) → getD (now snow) i 0 ≤ mostSnow) ⌝ }
     ensures { λ r. ⌜ r ≡ placeIn (lowest (length (now (water .entry))) (λ i. deepAt (now (covers .entry)) (now (slots .entry)) (now (water .entry)) (todayOf today) (now (snow .entry)) i)) ⌝ }
 {
     let gross = today.gross;
     let growing = today.growing;
     let snows = today.snows;
+    if !snows {
+        return Place::Nowhere;
+    }
     let n = water.len();
     let mut i = 0;
     while i < n {

@@ -1,6 +1,6 @@
 -- `cover_day::cover_days` meets its contract: the slots passed have their figures, each of which is at most gross precipitation or a code, and there are at
 -- most 256 slots.
-use mathlib.Core.Path.{_≡_, sym, subst}
+use mathlib.Core.Path.{_≡_, sym}
 use mathlib.Core.List.{List}
 use Prim.Native.Nat.{ℕ, _*_, _/_, _≤_, _<_, _-_}
 use native.Mathlib.Omega.{arith}

@@ -1,8 +1,8 @@
 -- `own_water::own_water` meets its contract: the cells passed have their own water, and the others are as they were.
-use mathlib.Core.Path.{_≡_, sym, _∙_, subst}
-use Prim.Native.Nat.{ℕ, _≤_, _<_, _-_}
+use mathlib.Core.Path.{_≡_, sym, _∙_}
+use Prim.Native.Nat.{_≤_, _<_, _-_}
 use native.Mathlib.Omega.{arith}
-use lib.ListN.{length, getD}
+use lib.ListN.{length}
 use borrow.Author.Needs.{needs}
 use Rattle.theory.specs.Lists.{madeOver}
 use Rattle.theory.proofs.ListLaws.{over-none}

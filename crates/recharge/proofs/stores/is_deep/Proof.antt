@@ -1,6 +1,5 @@
 -- `stores::is_deep` meets its contract: a store within its limit is not too deep, and open water never is. A store of 32 bits with a fall of at most the gross
 -- figure fits 64.
-use mathlib.Core.Path.{sym}
 use native.Mathlib.Omega.{arith}
 use borrow.Author.Needs.{needs}
 use borrow.Author.Tests.{lt-ltb, le-ltb}

@@ -1,15 +1,18 @@
--- `stores::too_deep` meets its contract: no cell that the search has passed is too deep.
+-- `stores::too_deep` meets its contract: where no snow falls no store grows, and else no cell that the search has passed is too deep.
 use mathlib.Core.Path.{_≡_, sym, _∙_}
 use Prim.Native.Nat.{_≤_, _-_}
-use native.Mathlib.Nat.{not-suc-le-zero}
+use native.Mathlib.Nat.{not-suc-le-zero, le-refl}
 use borrow.Author.Count.{below-more}
 use borrow.Author.Needs.{needs}
+use borrow.Author.Tests.{not-true}
 use lib.ListN.{length, getD}
 use Rattle.paper.specs.CellDay.{figureOf, netOf, storeOf}
 use Rattle.paper.specs.Refusals.{tooDeep}
 use Rattle.survey.specs.Cells.{cellFrom}
 use Rattle.recharge.specs.Stores.{fallFrom, deepFrom, deepAt}
 use Rattle.survey.proofs.PlaceLaws.{PassedTo, found-place, no-place}
+use Rattle.records.specs.Calls.{todayOf}
+use Rattle.recharge.proofs.StoreLaws.{dry-day}
 use Rattle.recharge.proofs.stores.too_deep.Statement.{statement}
 use Rattle.recharge.proofs.stores.too_deep.Tie as tie
 
@@ -19,6 +22,13 @@ Inv-loop covers slots water snow gross growing snows n i₀ i =
 
 abbrev μ-loop : tie.MeasureT-loop
 μ-loop covers slots water snow gross growing snows n i₀ i = n - i
+
+returns : tie.Need-returns Inv-loop μ-loop
+returns c =
+    let start = c .before .before .before .before .before in
+    let a = start .args in
+    let dry = not-true _ (c .if1 .taken) in
+    no-place _ _ _ (λ j h. dry-day (a .covers .now) (a .slots .now) (a .water .now) (a .snow .now) (todayOf (a .today)) dry j (start .pre .3 j h)) (le-refl _)
 
 loop-holds : tie.Need-loop-holds Inv-loop μ-loop
 loop-holds c = (search needs, search needs, λ j h. absurd (not-suc-le-zero h))
@@ -42,17 +52,17 @@ is-deep-requires : tie.Need-is-deep-requires Inv-loop μ-loop
 is-deep-requires c κs =
     let at-place = c .before in
     let at-loop-test = at-place .before .before in
-    let pre = at-loop-test .before .before .before .before .before .before .pre in
+    let pre = at-loop-test .before .before .before .before .before .before .before .pre in
     (rw (at-place .place .ensures) (pre .0 .slotted _ (at-loop-test .loop-test .taken)), pre .2)
 
-returns : tie.Need-returns Inv-loop μ-loop
+returns-2 : tie.Need-returns-2 Inv-loop μ-loop
 unfolding deepAt deepFrom fallFrom tooDeep storeOf netOf figureOf cellFrom
-returns c =
+returns-2 c =
     let at-is-deep = c .before in
     let at-place = at-is-deep .before .before in
     let at-loop-test = at-place .before .before in
     found-place _ _ _ (at-loop-test .before .loop .inv .2) (at-loop-test .loop-test .taken)
-    (rw (at-place .place .ensures) at (sym (at-is-deep .is-deep .ensures) ∙ c .if1 .taken))
+    (rw (at-place .place .ensures) at (sym (at-is-deep .is-deep .ensures) ∙ c .if2 .taken))
 
 add-i : tie.Need-add-i Inv-loop μ-loop
 add-i c = search needs
@@ -68,12 +78,12 @@ loop-again c =
       search needs,
       search needs,
       below-more _ _ (at-loop-test .before .loop .inv .2)
-          (rw (at-place .place .ensures) at (sym (at-is-deep .is-deep .ensures) ∙ c .if1 .left)),
+          (rw (at-place .place .ensures) at (sym (at-is-deep .is-deep .ensures) ∙ c .if2 .left)),
     )
 
-returns-2 : tie.Need-returns-2 Inv-loop μ-loop
+returns-3 : tie.Need-returns-3 Inv-loop μ-loop
 unfolding deepAt deepFrom fallFrom tooDeep storeOf netOf figureOf cellFrom
-returns-2 c = no-place _ _ _ (c .before .loop .inv .2) (c .loop-test .left)
+returns-3 c = no-place _ _ _ (c .before .loop .inv .2) (c .loop-test .left)
 
 pub too-deep-spec : {M : Type 1} → statement M
 too-deep-spec =
@@ -81,6 +91,7 @@ too-deep-spec =
     (tie.spec
     Inv-loop
     μ-loop
+    returns
     loop-holds
     mul-place
     element-copy-out-place
@@ -88,8 +99,8 @@ too-deep-spec =
     mul-is-deep
     shared-slice-read-is-deep
     is-deep-requires
-    returns
+    returns-2
     add-i
     loop-less
     loop-again
-    returns-2)
+    returns-3)

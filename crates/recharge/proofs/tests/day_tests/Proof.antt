@@ -16,7 +16,7 @@ use Rattle.records.specs.Calls.{gridOf, setupOf, stateOf, dayIn, outcomeIn}
 use Rattle.records.specs.declared.answers.Outcome.the-variants as Outcome
 use Rattle.recharge.proofs.DayTestLaws.{day-bad, serial-bad, store-bad, memory-bad, snow-bad, day-good}
 use Rattle.survey.proofs.SurveyLaws.{found-at, found-no}
-use Rattle.recharge.proofs.TestLaws.{waters, lent-slots, stores-found, deep-found}
+use Rattle.recharge.proofs.TestLaws.{waters, lent-slots, stores-found, lying, deep-found}
 use borrow.Author.Needs.{needs}
 use Rattle.recharge.proofs.tests.day_tests.Statement.{statement}
 use Rattle.recharge.proofs.tests.day_tests.Tie as tie
@@ -146,7 +146,13 @@ too-deep-requires c κs =
     let day-ok = sym (at-day-fits .day-fits .ensures) ∙ not-false _ (at-if1 .if1 .left) in
     let memory-ok = sym (at-memory-fits .memory-fits .ensures) ∙ not-false _ (at-if3 .if3 .left) in
     let today-is = c .today-of .ensures ∙ today-fits (gridOf (a .setup)) _ _ day-ok memory-ok in
-    (lent-slots s st _ (start .pre), start .pre .snows ∙ sym (waters s st _ (start .pre)), le-trans (le-of-eq (ap (λ (t : Today). t .gross) today-is)) (day-known d day-ok .gross))
+    let at-enum-told = at-memory-fits .before in
+    let passed = found-no _ (sym (at-enum-told .enum-told .given .1) ∙ at-enum-told .before .before .bad-store .ensures) in (
+      lent-slots s st _ (start .pre),
+      start .pre .snows ∙ sym (waters s st _ (start .pre)),
+      le-trans (le-of-eq (ap (λ (t : Today). t .gross) today-is)) (day-known d day-ok .gross),
+      lying s st _ (start .pre) passed,
+    )
 
 enum-known-deep : tie.Need-enum-known-deep
 enum-known-deep c = search needs
