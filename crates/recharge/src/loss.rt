@@ -36,5 +36,6 @@ pub(crate) fn loss(f: &[u32; 2049], capacity: Depth, soil: Depth, shortfall: Dep
         return Depth(0);
     }
     let water = soil.0;
-    Depth(water * share_lost(f, capacity, shortfall) / (1048576 * most))
+    // One after the other: what the first division leaves mostly fits 32 bits, where a processor divides faster.
+    Depth(water * share_lost(f, capacity, shortfall) / 1048576 / most)
 }

@@ -1,6 +1,7 @@
 -- `loss::loss` meets its contract: soil × L fits 64 bits, since L is at most 1,048,576 C; with no capacity the loss is 0.
 use mathlib.Core.Path.{sym}
 use Prim.Native.Nat.{_<_}
+use native.Mathlib.Nat.{div-div-eq-div-mul}
 use native.Mathlib.Omega.{arith}
 use borrow.Author.Needs.{needs}
 use Rattle.paper.specs.Retention.{loss}
@@ -22,15 +23,12 @@ mul-t9 c =
     rw (c .share-lost .ensures)
     (omega (arith, share-fits (s .args .capacity .0) (s .args .soil .0) (s .args .shortfall .0) some (s .pre .0) (s .pre .1)))
 
-mul-t10 : tie.Need-mul-t10
-mul-t10 c = search needs
-
 div-t11 : tie.Need-div-t11
 div-t11 c = search needs
 
 returns-2 : tie.Need-returns-2
 unfolding loss
-returns-2 c = rw (c .share-lost .ensures)
+returns-2 c = rw (div-div-eq-div-mul, c .share-lost .ensures)
 
 pub loss-spec : {M : Type 1} → statement M
-loss-spec = tie.close (tie.spec returns share-lost-requires mul-t9 mul-t10 div-t11 returns-2)
+loss-spec = tie.close (tie.spec returns share-lost-requires mul-t9 div-t11 returns-2)
