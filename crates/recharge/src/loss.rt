@@ -36,6 +36,6 @@ pub(crate) fn loss(f: &[u32; 2049], capacity: Depth, soil: Depth, shortfall: Dep
         return Depth(0);
     }
     let water = soil.0;
-    // One after the other: what the first division leaves mostly fits 32 bits, where a processor divides faster.
+    // Two divisions round down to the same number as rule 8's one; what the first leaves mostly fits 32 bits, where a processor divides faster.
     Depth(water * share_lost(f, capacity, shortfall) / 1048576 / most)
 }
