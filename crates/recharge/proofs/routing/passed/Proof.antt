@@ -9,11 +9,11 @@ use Rattle.recharge.proofs.routing.passed.Tie as tie
 
 returns : tie.Need-returns
 unfolding passedBy
-returns c = simp (eq-eqb _ _ (c .if1 .taken))
+returns c = simp (eq-eqb _ 101 (c .if1 .taken))
 
 returns-2 : tie.Need-returns-2
 unfolding passedBy
-returns-2 c = simp (ne-eqb _ _ (c .before .if1 .left), eq-eqb _ _ (c .if2 .taken))
+returns-2 c = simp (ne-eqb _ _ (c .before .if1 .left), eq-eqb _ 4097 (c .if2 .taken))
 
 outflow-requires : tie.Need-outflow-requires
 outflow-requires c κs = search needs
