@@ -2,11 +2,13 @@ pub mod CallLaws
 pub mod CellLaws
 pub mod CoverLaws
 pub mod DirectionLaws
+pub mod GroundLaws
 pub mod MapLaws
 pub mod OrderLaws
 pub mod PlaceLaws
 pub mod QueueLaws
 pub mod SlotLaws
+pub mod SlotNumbers
 pub mod SurveyLaws
 pub mod WayArrays
 pub mod WayLaying

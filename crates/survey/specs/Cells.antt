@@ -4,7 +4,7 @@ use mathlib.Core.List.{List}
 use Prim.Native.Nat.{ℕ, suc, _+_, _*_, _/_, _%_, _-_, _≤_, _<_}
 use lib.Dec.{eqb}
 use lib.ListN.{length, getD}
-use Rattle.paper.specs.Limits.{mostCells, mostAvailableWater}
+use Rattle.paper.specs.Limits.{mostCells, mostAvailableWater, mostRootDepth}
 use Rattle.paper.specs.Covers.{openOf, curveNumberOf, largestOf, growingOf, dormantOf, rootDepthOf, entries}
 use Rattle.paper.specs.Setup.{Setup, Cell, entryOf, groupOf}
 use Rattle.survey.specs.Covers.{EntriesFit}
@@ -23,6 +23,10 @@ cellFrom covers slot water way =
       growingFigure = growingOf covers (slot / 4);
       dormantFigure = dormantOf covers (slot / 4);
     }
+
+-- the most that a cell's soil can hold: available water × root depth
+abbrev pub mostCapacity : ℕ
+mostCapacity = mostAvailableWater * mostRootDepth
 
 -- cell i of lists of slots, available water and ways
 abbrev pub cellIn : List ℕ → List ℕ → List ℕ → List ℕ → ℕ → Cell

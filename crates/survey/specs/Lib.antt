@@ -1,5 +1,6 @@
 pub mod Covers
 pub mod Cells
+pub mod Grounds
 pub mod Routes
 pub mod Slots
 pub mod Peeling

@@ -54,7 +54,8 @@ fn chart(
     Outcome::Accepted
 }
 
-fn clear(slot: &mut [u32; 4096], way: &mut [u32; 4096], turn: &mut [u32; 4096])
+// Arrays that hold nothing, as a survey that refuses leaves them.
+pub fn clear(slot: &mut [u32; 4096], way: &mut [u32; 4096], turn: &mut [u32; 4096])
     ensures { λ r. ⌜ Blank (now (slot .exit)) (now (way .exit)) (now (turn .exit)) ⌝ }
 {
     *slot = [0u32; 4096];

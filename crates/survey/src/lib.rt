@@ -2,7 +2,14 @@
 mod cells;
 mod charts;
 mod covers;
+mod ground;
 mod order;
 mod ways;
 
+pub use charts::clear;
 pub use charts::survey;
+pub use ground::is_open;
+pub use ground::largest_recharges;
+pub use ground::root_depths;
+pub use ground::season_figure;
+pub use ground::table_number;
