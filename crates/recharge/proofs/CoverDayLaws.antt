@@ -3,7 +3,7 @@
 use mathlib.Core.Path.{_≡_, refl, ap, sym, _∙_}
 use mathlib.Core.Bool.{Bool, true, false, not}
 use mathlib.Core.List.{List}
-use Prim.Native.Nat.{ℕ, _+_, _-_, _*_, _≤_, zero-le}
+use Prim.Native.Nat.{ℕ, _+_, _-_, _*_, _≤_, _<_, zero-le}
 use native.Mathlib.Nat.{le-refl, le-trans}
 use native.Mathlib.Omega.{arith}
 use lib.Dec.{eqb}
@@ -13,19 +13,22 @@ use Rattle.theory.specs.Lists.{madeOver}
 use Rattle.theory.specs.Sums.{given}
 use Rattle.theory.proofs.Cases.{byCases, cond-true, cond-false}
 use Rattle.theory.proofs.SumLaws.{given-most}
+use Rattle.paper.specs.Limits.{mostAvailableWater}
 use Rattle.paper.specs.Covers.{entries}
 use Rattle.paper.specs.Interception.{intercepted, net}
 use Rattle.paper.specs.Snow.{melt}
 use Rattle.paper.specs.CurveNumber.{curveNumber}
 use Rattle.paper.specs.Setup.{Cell}
-use Rattle.paper.specs.State.{mostSnowOf}
+use Rattle.paper.specs.State.{mostSoilOf, mostSnowOf}
 use Rattle.paper.specs.CellDay.{Today, figureOf, interceptedOf, netOf, rainOf, storeOf, meltOf, ownOf, passedOf}
 use Rattle.paper.proofs.CurveNumberLaws.{UpTo100}
-use Rattle.survey.specs.Cells.{cellFrom}
+use Rattle.survey.specs.Covers.{EntriesFit}
+use Rattle.survey.specs.Cells.{cellFrom, mostCapacity}
 use Rattle.survey.proofs.WayArrays.{over-at}
 use Rattle.recharge.specs.CoverDay.{heldOf, wetOf, fallOf, codeOf, BySlot}
 use Rattle.recharge.specs.OwnWater.{ownBy}
 use Rattle.recharge.specs.Routing.{passedBy, Coded}
+use Rattle.survey.proofs.SlotNumbers.{slot-capacity}
 
 module _ (c : Cell) (t : Today) where
   -- from the code's steps on land
@@ -64,16 +67,6 @@ module _ (c : Cell) (t : Today) where
   unfolding codeOf
   code-land table number dry e k = rw (cond-false (c .open?) dry, k, e)
 
-  -- on land, as the last pass reads them
-  pub land-held : c .open? ≡ false → heldOf t c ≡ interceptedOf c t
-  unfolding heldOf
-  land-held dry = cond-false (c .open?) dry _ _
-
-  pub land-snow : (snow fall melted : ℕ) → c .open? ≡ false → fall ≡ fallOf t c → melted ≡ melt (snow + fall) (t .meltable)
-      → snow + fall - melted ≡ storeOf c t snow - meltOf c t snow
-  unfolding fallOf storeOf meltOf
-  land-snow snow fall melted dry e m = rw (m, e, cond-false (c .open?) dry)
-
   pub held-most : heldOf t c ≤ t .gross
   unfolding heldOf interceptedOf intercepted
   held-most = byCases (c .open?) (λ e. rw (cond-true (c .open?) e) zero-le) (λ e. rw (cond-false (c .open?) e) (omega arith))
@@ -108,6 +101,12 @@ module _ (c : Cell) (t : Today) where
         byCases (c .open?) (λ e. rw (cond-true (c .open?) e) (record { least = omega arith; most = omega arith }))
         (λ e. rw (cond-false (c .open?) e) (record { least = u .least; most = omega (arith, u .most) }))
 
+    pub open-code : eqb (codeOf t c) 101 ≡ c .open?
+    unfolding codeOf
+    open-code =
+        byCases (c .open?) (λ e. rw e refl)
+        (λ e. rw e (ne-eqb (curveNumber (t .condition) (c .N)) 101 (λ q. omega (arith, u .most))))
+
     pub passed-shared : (way w : ℕ) → c .closed? ≡ eqb way 4097 → passedBy (codeOf t c) way w ≡ passedOf c t w
     unfolding codeOf passedBy passedOf
     passed-shared way w k =
@@ -140,3 +139,11 @@ by-slot covers figure numbers before same e =
     record {
       each = λ slot water way h. ap (λ (l : List ℕ). getD l slot 0) e ∙ over-at (4 * entries covers) _ before 0 slot h ∙ same slot water way;
     }
+
+-- no soil holds more than 600 × 1,000 units
+pub soil-most : (covers : List ℕ) (fit : EntriesFit covers) (slot : ℕ) → slot < 4 * entries covers → (water way : ℕ) → water ≤ mostAvailableWater
+    → mostSoilOf (cellFrom covers slot water way) ≤ mostCapacity
+unfolding mostSoilOf
+soil-most covers fit slot h water way w =
+    byCases (cellFrom covers slot water way .open?) (λ e. rw (cond-true {A = ℕ} (cellFrom covers slot water way .open?) e) zero-le)
+    (λ e. rw (cond-false {A = ℕ} (cellFrom covers slot water way .open?) e) (slot-capacity covers fit slot h water way w))

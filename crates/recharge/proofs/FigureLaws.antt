@@ -1,21 +1,25 @@
--- The figures of a cell that water reached, by whether it is open water, and their limits: by the account of its soil each is at most
+-- The figures of a cell that water reached are what its plot and its soil give, on open water too; and each is, by the account of the soil, at most
 -- what the cell had and was given, which fits 32 bits.
 use mathlib.Core.Path.{_≡_, ap, _∙_, sym}
-use mathlib.Core.Bool.{true, false}
-use Prim.Native.Nat.{ℕ, _-_, _≤_, _<_}
+use mathlib.Core.Bool.{true, false, cond}
+use Prim.Native.Nat.{ℕ, _+_, _-_, _≤_, _<_}
 use native.Mathlib.Omega.{arith}
+use Rattle.theory.specs.Sums.{given}
 use Rattle.theory.proofs.Cases.{byCases, cond-true, cond-false}
 use Rattle.paper.specs.Limits.{mostGross, mostSnow}
 use Rattle.paper.specs.Interception.{intercepted}
+use Rattle.paper.specs.Snow.{melt}
 use Rattle.paper.specs.Setup.{Cell}
-use Rattle.paper.specs.State.{mostSoilOf}
+use Rattle.paper.specs.State.{mostSoilOf, mostSnowOf}
 use Rattle.paper.specs.Soil.{SoilDay, soilDay}
 use Rattle.paper.specs.CurveNumber.{curveNumber}
-use Rattle.paper.specs.CellDay.{Today, Figures, interceptedOf, storeOf, meltOf, passedOf, groundOf, openDay, landDay}
+use Rattle.paper.specs.CellDay.{Today, Figures, interceptedOf, netOf, storeOf, meltOf, passedOf, groundOf, openDay, landDay}
 use Rattle.paper.proofs.SoilLaws.{soil-account}
 use Rattle.paper.proofs.CellDayLaws.{passed-most}
-use Rattle.recharge.specs.Depths.{mostCapacity, waterLimit}
+use Rattle.survey.specs.Cells.{mostCapacity}
+use Rattle.recharge.specs.Depths.{waterLimit}
 use Rattle.recharge.specs.CellDay.{figuresFrom, Fit32}
+use Rattle.recharge.specs.CoverDay.{heldOf, fallOf}
 
 module _ (c : Cell) (t : Today) (soil snow w : ℕ) where
   figures-open : c .open? ≡ true → figuresFrom c t soil snow w ≡ openDay w
@@ -26,26 +30,59 @@ module _ (c : Cell) (t : Today) (soil snow w : ℕ) where
   unfolding figuresFrom
   figures-land e = cond-false (c .open?) e _ _
 
-  -- all that reached open water flows out
-  pub open-figures : (out : ℕ) → c .open? ≡ true → out ≡ passedOf c t w
-      → record { intercepted = 0; outflow = out; evapotranspired = 0; recharged = 0; rejected = 0; soil = 0; snow = 0 } ≡ figuresFrom c t soil snow w
-  unfolding passedOf openDay
-  open-figures out e p = ap openDay (p ∙ cond-true (c .open?) e _ _) ∙ sym (figures-open e)
+  -- from what the day brings to the cell's plot, and what the soil does
+  module _ (held out fall melted left most largest n : ℕ) (d : SoilDay) (eh : held ≡ heldOf t c) (eo : out ≡ passedOf c t w) (ef : fall ≡ fallOf t c)
+      (ei : melted ≡ melt (snow + fall) (t .meltable)) (ey : left ≡ snow + fall - melted) (em : most ≡ mostSoilOf c) (el : largest ≡ cond (c .open?) 0 (c .largest)) (en : n ≡ w - out)
+      (ed : d ≡ soilDay most largest soil n (t .potential)) (holds : soil ≤ most) (lies : snow ≤ mostSnowOf c) where
+    abbrev figures : Figures
+    figures =
+        record {
+          intercepted = held;
+          outflow = out;
+          evapotranspired = d .evapotranspired;
+          recharged = d .recharged;
+          rejected = d .rejected;
+          soil = d .soil;
+          snow = left;
+        }
 
-  -- on land, from what the day brings and what the soil does
-  pub land-figures : (intercepted out snow' capacity largest n : ℕ) (d : SoilDay) → c .open? ≡ false → intercepted ≡ interceptedOf c t → out ≡ passedOf c t w
-      → capacity ≡ c .capacity → largest ≡ c .largest → n ≡ w - out → d ≡ soilDay capacity largest soil n (t .potential) → snow' ≡ storeOf c t snow - meltOf c t snow
-      → record {
-        intercepted = intercepted;
-        outflow = out;
-        evapotranspired = d .evapotranspired;
-        recharged = d .recharged;
-        rejected = d .rejected;
-        soil = d .soil;
-        snow = snow';
-      } ≡ figuresFrom c t soil snow w
-  unfolding landDay groundOf
-  land-figures intercepted out snow' capacity largest n d e i p a b m g s = rw (figures-land e, i, g, a, b, m, s, p)
+    -- the soil of open water has nothing and is given nothing, so by its account nothing comes of it
+    on-water : c .open? ≡ true → figures ≡ figuresFrom c t soil snow w
+    unfolding heldOf fallOf passedOf mostSoilOf mostSnowOf openDay
+    on-water e =
+        let bare : soil ≤ 0 = rw (em, cond-true {A = ℕ} (c .open?) e) at holds in
+        let clear : snow ≤ 0 = rw (cond-true {A = ℕ} (c .open?) e) at lies in
+        let all : out ≡ w = eo ∙ cond-true (c .open?) e _ _ in
+        let account = soil-account most largest soil n (t .potential) in
+        let no-fall : fall ≡ 0 = ef ∙ cond-true (c .open?) e _ _ in
+        (λ k. record {
+          intercepted = (eh ∙ cond-true (c .open?) e _ _) k;
+          outflow = all k;
+          evapotranspired = nought (λ (r : SoilDay). r .evapotranspired) (omega arith) k;
+          recharged = nought (λ (r : SoilDay). r .recharged) (omega arith) k;
+          rejected = nought (λ (r : SoilDay). r .rejected) (omega arith) k;
+          soil = nought (λ (r : SoilDay). r .soil) (omega arith) k;
+          snow = is-0 left (omega arith) k;
+        })
+        ∙ sym (figures-open e)
+      where
+        is-0 : (x : ℕ) → x ≤ 0 → x ≡ 0
+        is-0 x h = omega arith
+
+        nought : (p : SoilDay → ℕ) → p (soilDay most largest soil n (t .potential)) ≤ 0 → p d ≡ 0
+        nought p h = ap p ed ∙ is-0 _ h
+
+    on-land : c .open? ≡ false → figures ≡ figuresFrom c t soil snow w
+    unfolding heldOf fallOf mostSoilOf landDay groundOf storeOf meltOf
+    on-land e =
+        let held-back : held ≡ interceptedOf c t = eh ∙ cond-false (c .open?) e _ _ in
+        let fell : fall ≡ given (t .snows?) (netOf c t) = ef ∙ cond-false (c .open?) e _ _ in
+        let capacity : most ≡ c .capacity = em ∙ cond-false (c .open?) e _ _ in
+        let drains : largest ≡ c .largest = el ∙ cond-false (c .open?) e _ _ in
+        rw (figures-land e, held-back, ed, capacity, drains, en, ey, ei, fell, eo)
+
+    pub plot-figures : figures ≡ figuresFrom c t soil snow w
+    plot-figures = byCases (c .open?) on-water on-land
 
   pub figures-outflow : figuresFrom c t soil snow w .outflow ≡ passedOf c t w
   unfolding openDay landDay passedOf

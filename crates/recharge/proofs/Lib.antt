@@ -1,7 +1,5 @@
 pub mod AnswerLaws
-pub mod DayTestLaws
 pub mod FigureLaws
-pub mod FreshLaws
 pub mod LoopLaws
 pub mod LossRoom
 pub mod RetentionTable
@@ -9,6 +7,3 @@ pub mod RoutingLaws
 pub mod CoverDayLaws
 pub mod RunLaws
 pub mod SettleLaws
-pub mod SlotNumbers
-pub mod StoreLaws
-pub mod TestLaws

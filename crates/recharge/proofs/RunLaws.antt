@@ -16,6 +16,7 @@ use Rattle.paper.specs.CellDay.{Today, Figures, passedOf}
 use Rattle.paper.proofs.CellDayLaws.{own-most}
 use Rattle.paper.proofs.FlowLaws.{water-same}
 use Rattle.survey.specs.Cells.{cellIn, cellFrom}
+use Rattle.survey.specs.Grounds.{Rooted, Largest}
 use Rattle.recharge.specs.CellDay.{figuresFrom}
 use Rattle.recharge.specs.CoverDay.{codeOf, SharedBySlot}
 use Rattle.recharge.specs.OwnWater.{OwnReady, ownAt}
@@ -25,7 +26,7 @@ use Rattle.recharge.specs.Routing.{passedBy, passing, Routable, Routed}
 use Rattle.recharge.specs.Settle.{totalsBy, figureIn, goneIn, Ready, Settled}
 use Rattle.recharge.specs.Run.{passedIn, ownIn, reachedIn, dayIn, Runnable, Ran}
 use Rattle.records.specs.declared.answers.Totals.{Totals}
-use Rattle.recharge.proofs.SlotNumbers.{slot-number}
+use Rattle.survey.proofs.SlotNumbers.{slot-number}
 use Rattle.recharge.proofs.CoverDayLaws.{wet-most, own-shared, coded, passed-shared}
 use Rattle.recharge.proofs.FigureLaws.{figures-outflow}
 use Rattle.recharge.proofs.RoutingLaws.{little-water}
@@ -138,16 +139,17 @@ module _ (t : Today) (covers slots ways order available soil snow intercepted ou
             ∙ ap (passedOf (cellIn covers slots available ways i) t)
             (sym (ap (λ (l : List ℕ). getD l i 0) (routed .water-of) ∙ over-at n _ own 0 i h))
 
-        pub settle-ask : (f : List ℕ) → f ≡ table → Ready t f covers slots ways held snowfall reached available soil snow intercepted passedOn evapotranspired recharged rejected
-        settle-ask f e =
+        pub settle-ask : (f roots largest : List ℕ) → f ≡ table → Rooted covers roots → Largest covers largest
+            → Ready t f covers slots ways held snowfall codes roots largest reached available soil snow intercepted passedOn evapotranspired recharged rejected
+        settle-ask f roots largest e rooted drains =
             record {
               gross = ready .gross;
               potential = ready .potential;
               retained = e;
               cells = ready .cells;
               pointed = ready .pointing .sized;
-              held-is = shared .held-is;
-              fall-is = shared .snowfall-is;
+              by-slot =
+                  record { held-is = shared .held-is; fall-is = shared .snowfall-is; codes-are = shared .codes-are; rooted = rooted; largest-is = drains };
               soils = ready .soils;
               snows = ready .snows;
               interceptions = ready .interceptions;

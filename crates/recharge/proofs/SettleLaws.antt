@@ -11,118 +11,133 @@ use lib.Dec.{eqb}
 use lib.ListN.{length, getD, set, length-set}
 use Rattle.theory.specs.Lists.{madeOver}
 use Rattle.theory.specs.Sums.{sum, given}
-use Rattle.theory.proofs.Cases.{byCases, cond-true, cond-false}
 use Rattle.theory.proofs.ListLaws.{over-none, over-all}
 use Rattle.theory.proofs.SumLaws.{sum-most, given-most}
-use Rattle.paper.specs.Limits.{mostCells, mostGross, mostAvailableWater}
+use Rattle.paper.specs.Limits.{mostCells, mostGross}
 use Rattle.paper.specs.Covers.{entries}
 use Rattle.paper.specs.Setup.{Cell}
-use Rattle.paper.specs.State.{mostSoilOf}
+use Rattle.paper.specs.State.{mostSoilOf, mostSnowOf}
 use Rattle.paper.specs.CellDay.{Today, Figures, passedOf}
 use Rattle.paper.specs.Day as paper
-use Rattle.survey.specs.Covers.{EntriesFit}
-use Rattle.survey.specs.Cells.{cellFrom, cellIn}
+use Rattle.survey.specs.Cells.{cellFrom, cellIn, mostCapacity}
 use Rattle.recharge.specs.CellDay.{figuresFrom, CellReady, Fit32}
-use Rattle.recharge.specs.CoverDay.{Fell}
-use Rattle.recharge.specs.Ground.{Stands}
-use Rattle.recharge.specs.Settle.{totalsIn, withCell, totalsBy, Room, figureIn, goneIn, Ready, Settled}
+use Rattle.recharge.specs.CoverDay.{PlotAt, Stands}
+use Rattle.recharge.specs.Settle.{totalsIn, withCell, totalsBy, Room, figureIn, goneIn, LentAt, Ready, Settled}
 use Rattle.records.specs.declared.answers.Totals.{Totals}
-use Rattle.recharge.specs.declared.cover_day.Fallen.{Fallen}
-use Rattle.recharge.specs.declared.ground.Ground.{Ground}
+use Rattle.recharge.specs.declared.cover_day.Plot.{Plot}
 use Rattle.survey.proofs.CoverLaws.{count-limit}
-use Rattle.recharge.proofs.CoverDayLaws.{fall-most}
-use Rattle.recharge.proofs.SlotNumbers.{slot-number, slot-capacity}
-use Rattle.recharge.proofs.FigureLaws.{figures-outflow, figures-fit}
-use Rattle.recharge.proofs.StoreLaws.{snow-within}
+use Rattle.recharge.proofs.CoverDayLaws.{fall-most, soil-most, open-code}
+use Rattle.survey.proofs.SlotNumbers.{slot-number, slot-capacity}
+use Rattle.recharge.proofs.FigureLaws.{figures-fit}
+use Rattle.admission.proofs.StoreLaws.{snow-within}
 use Rattle.recharge.proofs.LoopLaws.{wrote, any-default}
 
-soil-within : (c : Cell) (soil : ℕ) → soil ≤ mostSoilOf c → soil ≤ c .capacity
-unfolding mostSoilOf
-soil-within c soil h =
-    byCases (c .open?) (λ e. omega (arith, rw (cond-true (c .open?) e) at h)) (λ e. rw (cond-false (c .open?) e) at h)
-
--- each cell of a grid that is ready
+-- one cell of the lent slices
 module _
     {t : Today}
-    {f covers slots ways heldBy fallBy reached water soil snow intercepted outflow evapotranspired recharged rejected : List ℕ}
-    (ready : Ready t f covers slots ways heldBy fallBy reached water soil snow intercepted outflow evapotranspired recharged rejected)
+    {f covers slots ways heldBy fallBy codes roots largest reached water outflow soil snow : List ℕ}
+    {i : ℕ}
+    (lent : LentAt t f covers slots ways heldBy fallBy codes roots largest reached water outflow soil snow i)
+  where
+    abbrev here : Cell
+    here = cellIn covers slots water ways i
+
+    slotted : getD slots i 0 < 4 * entries covers
+    slotted = lent .cells .slotted i (lent .inside)
+
+    holds : mostSoilOf here ≤ mostCapacity
+    holds = soil-most covers (lent .cells .table) (getD slots i 0) slotted (getD water i 0) (getD ways i 4097) (lent .cells .watered i (lent .inside))
+
+    pub lent-plot : (slot : ℕ) → slot ≡ getD slots i 0 → (slot < 256) × (getD water i 0 * getD roots slot 0 ≤ mostCapacity)
+    lent-plot slot s = (
+      omega (arith, slotted, count-limit covers (lent .cells .table)),
+      rw (s, lent .by-slot .rooted .each (getD slots i 0) (getD water i 0) (getD ways i 4097) slotted) holds,
+    )
+
+    pub lent-stands : (slot : ℕ) (p : Plot) → slot ≡ getD slots i 0 → PlotAt heldBy fallBy codes roots largest slot (getD water i 0) p → Stands here t p
+    lent-stands slot p s e =
+        let k = slotted in
+        let by = lent .by-slot in
+        record {
+          held = e .held-is ∙ rw s (by .held-is .each (getD slots i 0) (getD water i 0) (getD ways i 4097) k);
+          snowfall = e .snowfall-is ∙ rw s (by .fall-is .each (getD slots i 0) (getD water i 0) (getD ways i 4097) k);
+          most = e .most-is ∙ rw s (by .rooted .each (getD slots i 0) (getD water i 0) (getD ways i 4097) k);
+          largest = e .largest-is ∙ rw s (by .largest-is .each (getD slots i 0) (getD water i 0) (getD ways i 4097) k);
+          code = e .code-is ∙ rw s (by .codes-are .each (getD slots i 0) (getD water i 0) (getD ways i 4097) k);
+        }
+
+    pub lent-cell : (p : Plot) (s n w : ℕ) → Stands here t p → s ≡ getD soil i 0 → n ≡ getD snow i 0 → w ≡ getD reached i 0
+        → CellReady t (p .most .0) (p .snowfall .0) s n w f
+    lent-cell p s n w st es en ew =
+        record {
+          fallen = rw (st .snowfall) (le-trans (fall-most here t) (lent .gross));
+          potential = lent .potential;
+          deep = rw (st .most) holds;
+          held = rw (es, st .most) (lent .held);
+          lying = rw en (snow-within _ _ (lent .lying));
+          wet = rw ew (lent .wet);
+          retained = lent .retained;
+        }
+
+    pub lent-figures : (r : Figures) (s n w out : ℕ) → s ≡ getD soil i 0 → n ≡ getD snow i 0 → w ≡ getD reached i 0 → out ≡ getD outflow i 0
+        → (n ≤ mostSnowOf here → out ≡ passedOf here t w → r ≡ figuresFrom here t s n w)
+        → r ≡ figureIn t covers slots water ways reached soil snow i
+    unfolding figureIn
+    lent-figures r s n w out es en ew eo known =
+        known (rw en (lent .lying)) (eo ∙ lent .passed ∙ ap (λ (x : ℕ). passedOf here t x) (sym ew)) ∙ rw (es, en, ew)
+
+    -- open water's code is no curve number
+    pub lent-gone : (p : Plot) (gone out : ℕ) → Stands here t p → gone ≡ given (eqb (p .code) 101 || eqb (getD ways i 0) mostCells) out
+        → gone ≡ given (goneIn covers slots ways i) out
+    unfolding goneIn cellFrom
+    lent-gone p gone out st e =
+        e
+        ∙ ap (λ (b : Bool). given (b || eqb (getD ways i 0) mostCells) out)
+        (ap (λ (x : ℕ). eqb x 101) (st .code) ∙ open-code here t (slot-number covers (lent .cells .table) (getD slots i 0) slotted (t .condition)))
+        ∙ ap (λ (k : ℕ). given (here .open? || eqb k mostCells) out)
+        (any-default ways i 0 4097 (rw (lent .pointed) (lt-of-lt-of-le (lent .inside) (lent .cells .few))))
+
+-- each cell of a grid that is ready, with its stores as they were lent
+module _
+    {t : Today}
+    {f covers slots ways heldBy fallBy codes roots largest reached water soil snow intercepted outflow evapotranspired recharged rejected : List ℕ}
+    (ready : Ready t f covers slots ways heldBy fallBy codes roots largest reached water soil snow intercepted outflow evapotranspired recharged rejected)
     (i : ℕ)
     (h : i < length water)
   where
-    pub ready-slot : (slot wet : ℕ) → slot ≡ getD slots i 0 → wet ≡ getD water i 0
-        → EntriesFit covers × (slot < 4 * entries covers) × (wet ≤ mostAvailableWater)
-    ready-slot slot wet s w = (ready .cells .table, rw s (ready .cells .slotted i h), rw w (ready .cells .watered i h))
-
-    pub ready-inside : (slot : ℕ) → slot ≡ getD slots i 0 → slot < 256
-    ready-inside slot s = omega (arith, ready .cells .slotted i h, count-limit covers (ready .cells .table))
-
-    pub ready-stands : (slot wet : ℕ) (g : Ground) → slot ≡ getD slots i 0 → wet ≡ getD water i 0
-        → ((way : ℕ) → Stands (cellFrom covers slot wet way) g) → Stands (cellIn covers slots water ways i) g
-    ready-stands slot wet g s w st =
-        subst (λ (k : ℕ). Stands (cellFrom covers k (getD water i 0) (getD ways i 4097)) g) s
-        (subst (λ (k : ℕ). Stands (cellFrom covers slot k (getD ways i 4097)) g) w (st (getD ways i 4097)))
-
-    pub ready-fell : (slot : ℕ) (r : Fallen) → slot ≡ getD slots i 0 → (r .held .0 ≡ getD heldBy slot 0) × (r .snowfall .0 ≡ getD fallBy slot 0)
-        → Fell (cellIn covers slots water ways i) t r
-    ready-fell slot r s e =
-        let k = ready .cells .slotted i h in
+    pub ready-lent : (soil' snow' : List ℕ) → i < length soil' → i < length snow' → getD soil' i 0 ≡ getD soil i 0 → getD snow' i 0 ≡ getD snow i 0
+        → LentAt t f covers slots ways heldBy fallBy codes roots largest reached water outflow soil' snow' i
+    ready-lent soil' snow' ls ln es en =
         record {
-          held = e .0 ∙ rw s (ready .held-is .each (getD slots i 0) (getD water i 0) (getD ways i 4097) k);
-          snowfall = e .1 ∙ rw s (ready .fall-is .each (getD slots i 0) (getD water i 0) (getD ways i 4097) k);
-        }
-
-    deep : cellIn covers slots water ways i .capacity ≤ 600000
-    deep =
-        slot-capacity covers (ready .cells .table) (getD slots i 0) (ready .cells .slotted i h) (getD water i 0) (getD ways i 4097)
-        (ready .cells .watered i h)
-
-    pub ready-cell : (g : Ground) (r : Fallen) (s n w : ℕ) → Stands (cellIn covers slots water ways i) g → Fell (cellIn covers slots water ways i) t r
-        → s ≡ getD soil i 0 → n ≡ getD snow i 0 → w ≡ getD reached i 0 → CellReady t (g .capacity .0) (r .snowfall .0) s n w f
-    ready-cell g r s n w st fell es en ew =
-        record {
-          fallen = rw (fell .snowfall) (le-trans (fall-most (cellIn covers slots water ways i) t) (ready .gross));
+          gross = ready .gross;
           potential = ready .potential;
-          deep = rw (st .capacity) deep;
-          held = rw (es, st .capacity) (soil-within _ _ (ready .held i h));
-          lying = rw en (snow-within _ _ (ready .lying i h));
-          wet = rw ew (ready .wet i h);
           retained = ready .retained;
+          cells = ready .cells;
+          pointed = ready .pointed;
+          by-slot = ready .by-slot;
+          inside = h;
+          outflows = rw (ready .outflows) h;
+          soils = ls;
+          snows = ln;
+          held = rw es (ready .held i h);
+          lying = rw en (ready .lying i h);
+          wet = ready .wet i h;
+          passed = ready .passed i h;
         }
 
-    pub ready-figures : (r : Figures) (s n w out : ℕ) → s ≡ getD soil i 0 → n ≡ getD snow i 0 → w ≡ getD reached i 0 → out ≡ getD outflow i 0
-        → (out ≡ passedOf (cellIn covers slots water ways i) t w → r ≡ figuresFrom (cellIn covers slots water ways i) t s n w)
-        → r ≡ figureIn t covers slots water ways reached soil snow i
+    pub ready-same : (soil' snow' : List ℕ) → getD soil' i 0 ≡ getD soil i 0 → getD snow' i 0 ≡ getD snow i 0
+        → figureIn t covers slots water ways reached soil' snow' i ≡ figureIn t covers slots water ways reached soil snow i
     unfolding figureIn
-    ready-figures r s n w out es en ew eo known =
-        known (eo ∙ ready .passed i h ∙ ap (λ (x : ℕ). passedOf (cellIn covers slots water ways i) t x) (sym ew)) ∙ rw (es, en, ew)
+    ready-same soil' snow' es en = rw (es, en)
 
     pub ready-fits : Fit32 (figureIn t covers slots water ways reached soil snow i)
     unfolding figureIn cellFrom
     ready-fits =
         figures-fit (cellIn covers slots water ways i) t _ _ _
         (slot-number covers (ready .cells .table) (getD slots i 0) (ready .cells .slotted i h) (t .condition) .most)
-        (ready .gross) deep (ready .held i h) (ready .wet i h) (ready .joined i h)
-
-    leaving : figureIn t covers slots water ways reached soil snow i .outflow ≡ getD outflow i 0
-    unfolding figureIn
-    leaving = figures-outflow (cellIn covers slots water ways i) t _ _ _ ∙ sym (ready .passed i h)
-
-    gone-as : (g : Ground) → Stands (cellIn covers slots water ways i) g
-        → (g .«open_water» || eqb (getD ways i 0) mostCells) ≡ goneIn covers slots ways i
-    unfolding goneIn cellFrom
-    gone-as g st =
-        ap (λ (b : Bool). b || eqb (getD ways i 0) mostCells) (st .open?)
-        ∙ ap (λ (k : ℕ). cellIn covers slots water ways i .open? || eqb k mostCells)
-        (any-default ways i 0 4097 (rw (ready .pointed) (lt-of-lt-of-le h (ready .cells .few))))
-
-    pub ready-gone : (g : Ground) (out gone : ℕ) → Stands (cellIn covers slots water ways i) g → out ≡ getD outflow i 0
-        → gone ≡ given (g .«open_water» || eqb (getD ways i 0) mostCells) out
-        → gone ≡ given (goneIn covers slots ways i) (figureIn t covers slots water ways reached soil snow i .outflow)
-    ready-gone g out gone st eo e =
-        e ∙ ap (λ (b : Bool). given b out) (gone-as g st) ∙ ap (given (goneIn covers slots ways i)) (eo ∙ sym leaving)
-
-pub gone-most : (b : Bool) (gone x out : ℕ) → gone ≡ given b x → out ≡ x → gone ≤ out
-gone-most b gone x out e q = rw (e, q) (given-most b x)
+        (ready .gross)
+        (slot-capacity covers (ready .cells .table) (getD slots i 0) (ready .cells .slotted i h) (getD water i 0) (getD ways i 4097) (ready .cells .watered i h))
+        (ready .held i h) (ready .wet i h) (ready .joined i h)
 
 -- six slices of n entries each
 pub record Sizes (n : ℕ) (a b c d e f : List ℕ) : Type 0 where

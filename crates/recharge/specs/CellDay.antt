@@ -6,7 +6,8 @@ use Prim.Native.Nat.{ℕ, _≤_, _<_}
 use Rattle.paper.specs.Limits.{mostGross, mostPotential, mostSnow}
 use Rattle.paper.specs.Setup.{Cell}
 use Rattle.paper.specs.CellDay as paper
-use Rattle.recharge.specs.Depths.{mostCapacity, waterLimit}
+use Rattle.survey.specs.Cells.{mostCapacity}
+use Rattle.recharge.specs.Depths.{waterLimit}
 use Rattle.recharge.specs.Retention.{table}
 use Rattle.recharge.specs.declared.cell_day.Figures.{Figures}
 
@@ -23,11 +24,11 @@ figuresOf r =
     }
 
 -- a day, a ground and stores within their limits
-pub record CellReady (t : paper.Today) (capacity snowfall soil snow reached : ℕ) (f : List ℕ) : Type 0 where
+pub record CellReady (t : paper.Today) (most snowfall soil snow reached : ℕ) (f : List ℕ) : Type 0 where
   pub fallen : snowfall ≤ mostGross
   pub potential : t .potential ≤ mostPotential
-  pub deep : capacity ≤ mostCapacity
-  pub held : soil ≤ capacity
+  pub deep : most ≤ mostCapacity
+  pub held : soil ≤ most
   pub lying : snow ≤ mostSnow
   pub wet : reached < waterLimit
   pub retained : f ≡ table

@@ -7,11 +7,12 @@ use lib.ListN.{getD}
 use Rattle.theory.specs.Sums.{given}
 use Rattle.paper.specs.Covers.{entries}
 use Rattle.paper.specs.Setup.{Cell}
+use Rattle.paper.specs.State.{mostSoilOf}
 use Rattle.paper.specs.CurveNumber.{curveNumber}
 use Rattle.paper.specs.CellDay.{Today, interceptedOf, netOf, rainOf}
 use Rattle.survey.specs.Cells.{cellFrom}
 use Rattle.recharge.specs.declared.cover_day.CoverDay.{CoverDay}
-use Rattle.recharge.specs.declared.cover_day.Fallen.{Fallen}
+use Rattle.recharge.specs.declared.cover_day.Plot.{Plot}
 
 -- rules 2 and 3 on land; on open water nothing is held back, and all of gross precipitation is rain
 unfoldable pub heldOf : Today → Cell → ℕ
@@ -33,11 +34,6 @@ pub record Shared (c : Cell) (t : Today) (r : CoverDay) : Type 0 where
   pub snowfall : r .snowfall .0 ≡ fallOf t c
   pub code : r .code ≡ codeOf t c
 
--- the part of them that the last pass reads
-pub record Fell (c : Cell) (t : Today) (r : Fallen) : Type 0 where
-  pub held : r .held .0 ≡ heldOf t c
-  pub snowfall : r .snowfall .0 ≡ fallOf t c
-
 -- an array that has the figure of each slot's cells
 pub record BySlot (covers : List ℕ) (figure : Cell → ℕ) (numbers : List ℕ) : Type 0 where
   pub each : (slot water way : ℕ) → slot < 4 * entries covers → getD numbers slot 0 ≡ figure (cellFrom covers slot water way)
@@ -47,3 +43,19 @@ pub record SharedBySlot (t : Today) (covers held rain snowfall codes : List ℕ)
   pub rain-is : BySlot covers (wetOf t) rain
   pub snowfall-is : BySlot covers (fallOf t) snowfall
   pub codes-are : BySlot covers (codeOf t) codes
+
+-- the numbers of a slot's arrays, and the most that the soil holds with that available water
+pub record PlotAt (held snowfall codes roots largest : List ℕ) (slot water : ℕ) (p : Plot) : Type 0 where
+  pub held-is : p .held .0 ≡ getD held slot 0
+  pub snowfall-is : p .snowfall .0 ≡ getD snowfall slot 0
+  pub most-is : p .most .0 ≡ water * getD roots slot 0
+  pub largest-is : p .largest .0 ≡ getD largest slot 0
+  pub code-is : p .code ≡ getD codes slot 0
+
+-- p is the plot of cell c
+pub record Stands (c : Cell) (t : Today) (p : Plot) : Type 0 where
+  pub held : p .held .0 ≡ heldOf t c
+  pub snowfall : p .snowfall .0 ≡ fallOf t c
+  pub most : p .most .0 ≡ mostSoilOf c
+  pub largest : p .largest .0 ≡ cond (c .open?) 0 (c .largest)
+  pub code : p .code ≡ codeOf t c

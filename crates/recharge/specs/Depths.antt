@@ -1,10 +1,5 @@
--- The largest depths that the rules' code meets.
-use Prim.Native.Nat.{ℕ, _*_}
-use Rattle.paper.specs.Limits.{mostAvailableWater, mostRootDepth}
-
--- available water × root depth
-abbrev pub mostCapacity : ℕ
-mostCapacity = mostAvailableWater * mostRootDepth
+-- The largest depth that the rules' code meets.
+use Prim.Native.Nat.{ℕ}
 
 -- above all water that a day can bring to one cell of the largest grid
 abbrev pub waterLimit : ℕ

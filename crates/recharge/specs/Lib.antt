@@ -2,12 +2,9 @@ pub mod Depths
 pub mod Retention
 pub mod Soil
 pub mod Routing
-pub mod Ground
 pub mod OwnWater
 pub mod CoverDay
 pub mod CellDay
 pub mod Settle
 pub mod Run
-pub mod Stores
-pub mod Tests
 pub mod Answers

@@ -15,7 +15,8 @@ use Rattle.paper.specs.Day as paper
 use Rattle.recharge.specs.Depths.{waterLimit}
 use Rattle.recharge.specs.Retention.{table}
 use Rattle.survey.specs.Cells.{cellIn, SlotsFit}
-use Rattle.recharge.specs.CoverDay.{heldOf, fallOf, BySlot}
+use Rattle.survey.specs.Grounds.{Rooted, Largest}
+use Rattle.recharge.specs.CoverDay.{heldOf, fallOf, codeOf, BySlot}
 use Rattle.recharge.specs.CellDay.{figuresFrom}
 use Rattle.records.specs.declared.answers.Totals.{Totals}
 
@@ -79,18 +80,46 @@ figureIn t covers slots water ways reached soil snow i =
 unfoldable pub goneIn : List ℕ → List ℕ → List ℕ → ℕ → Bool
 goneIn covers slots ways i = eqb (openOf covers (getD slots i 0 / 4)) 1 || eqb (getD ways i 4097) mostCells
 
--- one entry a cell in each lent slice, stores within their limits, and the outflow for the water that reached each cell
-pub record Ready
+-- what the last pass reads by slot
+pub record BySlots (t : Today) (covers heldBy fallBy codes roots largest : List ℕ) : Type 0 where
+  pub held-is : BySlot covers (heldOf t) heldBy
+  pub fall-is : BySlot covers (fallOf t) fallBy
+  pub codes-are : BySlot covers (codeOf t) codes
+  pub rooted : Rooted covers roots
+  pub largest-is : Largest covers largest
+
+-- cell i of the lent slices: its stores within their limits, and the outflow for the water that reached it
+pub record LentAt
     (t : Today)
-    (f covers slots ways heldBy fallBy reached water soil snow intercepted outflow evapotranspired recharged rejected : List ℕ)
+    (f covers slots ways heldBy fallBy codes roots largest reached water outflow soil snow : List ℕ)
+    (i : ℕ)
     : Type 0 where
   pub gross : t .gross ≤ mostGross
   pub potential : t .potential ≤ mostPotential
   pub retained : f ≡ table
   pub cells : SlotsFit covers (length water) slots water
   pub pointed : length ways ≡ 4096
-  pub held-is : BySlot covers (heldOf t) heldBy
-  pub fall-is : BySlot covers (fallOf t) fallBy
+  pub by-slot : BySlots t covers heldBy fallBy codes roots largest
+  pub inside : i < length water
+  pub outflows : i < length outflow
+  pub soils : i < length soil
+  pub snows : i < length snow
+  pub held : getD soil i 0 ≤ mostSoilOf (cellIn covers slots water ways i)
+  pub lying : getD snow i 0 ≤ mostSnowOf (cellIn covers slots water ways i)
+  pub wet : getD reached i 0 < waterLimit
+  pub passed : getD outflow i 0 ≡ passedOf (cellIn covers slots water ways i) t (getD reached i 0)
+
+-- one entry a cell in each lent slice, stores within their limits, and the outflow for the water that reached each cell
+pub record Ready
+    (t : Today)
+    (f covers slots ways heldBy fallBy codes roots largest reached water soil snow intercepted outflow evapotranspired recharged rejected : List ℕ)
+    : Type 0 where
+  pub gross : t .gross ≤ mostGross
+  pub potential : t .potential ≤ mostPotential
+  pub retained : f ≡ table
+  pub cells : SlotsFit covers (length water) slots water
+  pub pointed : length ways ≡ 4096
+  pub by-slot : BySlots t covers heldBy fallBy codes roots largest
   pub soils : length soil ≡ length water
   pub snows : length snow ≡ length water
   pub interceptions : length intercepted ≡ length water

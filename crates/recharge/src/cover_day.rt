@@ -6,16 +6,17 @@ ghost use Rattle.paper.specs.Limits.{mostGross};
 ghost use Rattle.paper.specs.Covers.{entries};
 ghost use Rattle.records.specs.Calls.{todayOf};
 ghost use Rattle.survey.specs.Covers.{EntriesFit};
-ghost use Rattle.survey.specs.Cells.{cellFrom};
-ghost use Rattle.recharge.specs.CoverDay.{Shared, SharedBySlot};
+ghost use Rattle.survey.specs.Cells.{cellFrom, mostCapacity};
+ghost use Rattle.recharge.specs.CoverDay.{Shared, SharedBySlot, PlotAt};
 use crate::curve_numbers::in_condition;
-use crate::ground::is_open;
-use crate::ground::season_figure;
-use crate::ground::table_number;
 use crate::interception::intercepted;
 use records::Depth;
 use records::Today;
 use records::depth;
+use records::wide;
+use survey::is_open;
+use survey::season_figure;
+use survey::table_number;
 
 // The code is the curve number in today's condition, or 101 on open water.
 struct CoverDay {
@@ -59,19 +60,34 @@ fn cover_day(today: Today, covers: &[u32], slot: usize) -> CoverDay
     }
 }
 
-// What the last pass asks of a cell's slot: what its cover holds back, and the snowfall.
-pub(crate) struct Fallen {
+// What the last pass reads of a cell by its slot, and the most that its soil can hold: 0 on open water, as is all that is held back, snows or
+// drains there.
+pub(crate) struct Plot {
     pub(crate) held: Depth,
     pub(crate) snowfall: Depth,
+    pub(crate) most: Depth,
+    pub(crate) largest: Depth,
+    pub(crate) code: u32,
 }
 
-pub(crate) fn fallen_at(held: &[u32; 256], snowfall: &[u32; 256], slot: usize) -> Fallen
-    requires { ⌜ slot < 256 ⌝ }
-    ensures { λ r. ⌜ (r .held .0 ≡ getD (now (held .entry)) slot 0) × (r .snowfall .0 ≡ getD (now (snowfall .entry)) slot 0) ⌝ }
+pub(crate) fn plot_at(
+    held: &[u32; 256],
+    snowfall: &[u32; 256],
+    codes: &[u32; 256],
+    roots: &[u32; 256],
+    largest: &[u32; 256],
+    slot: usize,
+    water: u32,
+) -> Plot
+    requires { ⌜ (slot < 256) × (water * getD (now roots) slot 0 ≤ mostCapacity) ⌝ }
+    ensures { λ r. ⌜ PlotAt (now (held .entry)) (now (snowfall .entry)) (now (codes .entry)) (now (roots .entry)) (now (largest .entry)) slot water r ⌝ }
 {
-    Fallen {
+    Plot {
         held: depth(held[slot]),
         snowfall: depth(snowfall[slot]),
+        most: Depth(wide(water) * wide(roots[slot])),
+        largest: depth(largest[slot]),
+        code: codes[slot],
     }
 }
 

@@ -8,6 +8,8 @@ use crate::routing::route;
 use crate::settle::settle;
 use records::Today;
 use records::Totals;
+use survey::largest_recharges;
+use survey::root_depths;
 
 pub(crate) fn run(
     today: Today,
@@ -44,6 +46,10 @@ pub(crate) fn run(
     let meltable = today.meltable;
     own_water(meltable, slots, &rain, &snowfall, snow, &mut reached);
     route(n, slots, ways, order, &codes, &mut reached, outflow);
+    let mut roots = [0u32; 256];
+    let mut largest = [0u32; 256];
+    root_depths(covers, &mut roots);
+    largest_recharges(covers, &mut largest);
     let f = retention();
     settle(
         today,
@@ -53,6 +59,9 @@ pub(crate) fn run(
         ways,
         &held,
         &snowfall,
+        &codes,
+        &roots,
+        &largest,
         &reached,
         water,
         soil,

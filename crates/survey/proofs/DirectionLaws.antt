@@ -55,10 +55,6 @@ unfolding wayOf
 other-byte byte a b c d e f g h =
     rw (ne-eqb byte 1 a, ne-eqb byte 2 b, ne-eqb byte 4 c, ne-eqb byte 8 d, ne-eqb byte 16 e, ne-eqb byte 32 f, ne-eqb byte 64 g, ne-eqb byte 128 h)
 
-pub by-byte : {byte key r : ℕ} (width height row column : ℕ) → byte ≡ key → r ≡ pointed (goesFrom width height row column (wayOf key))
-    → r ≡ pointed (goesFrom width height row column (wayOf byte))
-by-byte width height row column e q = rw e q
-
 pub pointed-closed : (width height row column : ℕ) → pointed (goesFrom width height row column closed) ≡ 4097
 unfolding pointed goesFrom
 pointed-closed width height row column = refl

@@ -7,11 +7,10 @@ use Prim.Native.Nat.{ℕ, _+_, _*_, _/_, _%_, _≤_, _<_, min, zero-le}
 use native.Mathlib.Nat.{mul-zero}
 use native.Mathlib.Omega.{arith}
 use lib.Dec.{eqb}
-use lib.ListN.{length, getD}
+use lib.ListN.{getD}
 use borrow.Author.Tests.{lt-ltb, ltb-true}
 use Rattle.theory.specs.Lists.{madeOver}
 use Rattle.theory.specs.Sums.{given}
-use Rattle.theory.proofs.ListLaws.{over-length}
 use Rattle.paper.specs.Covers.{openOf, curveNumberOf, growingOf, dormantOf, entries}
 use Rattle.paper.specs.State.{mostSoilOf}
 use Rattle.survey.specs.Covers.{EntriesFit}
@@ -24,10 +23,6 @@ use Rattle.survey.proofs.WayArrays.{over-at}
 pub slot-in : (covers : List ℕ) (slot : ℕ) → inTable covers slot ≡ true → slot < 4 * entries covers
 unfolding inTable
 slot-in covers slot e = ltb-true _ _ e
-
--- where a rule's first numbers are written over a list, the next place to be written is inside it
-pub room : (f : ℕ → ℕ) (l before : List ℕ) (i : ℕ) → l ≡ madeOver i f before → i < length before → i < length l
-room f l before i e h = rw (e, over-length i f before (omega arith)) h
 
 module _ (covers : List ℕ) (slot : ℕ) (h : slot < 4 * entries covers) where
   pub open-at : (water way : ℕ) → openAt covers slot ≡ cellFrom covers slot water way .open?

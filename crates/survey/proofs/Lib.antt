@@ -2,6 +2,7 @@ pub mod CallLaws
 pub mod CellLaws
 pub mod CoverLaws
 pub mod DirectionLaws
+pub mod FreshLaws
 pub mod GroundLaws
 pub mod MapLaws
 pub mod OrderLaws

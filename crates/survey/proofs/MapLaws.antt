@@ -1,5 +1,5 @@
 -- A setup that the survey passed: its arrays hold cells that the cover table has, and the cell that the code finds by them is the paper's.
-use mathlib.Core.Path.{_≡_, refl, sym, ap, _∙_}
+use mathlib.Core.Path.{_≡_, sym}
 use mathlib.Core.Bool.{true}
 use mathlib.Core.List.{List, [], append-nil}
 use Prim.Native.Nat.{ℕ, _<_}
@@ -7,7 +7,6 @@ use lib.ListN.{length, getD, replicate}
 use borrow.Author.Tests.{leb-true, eqb-true}
 use Rattle.theory.proofs.Cases.{and-left, and-right}
 use Rattle.theory.specs.Lists.{madeOver}
-use Rattle.theory.proofs.ListLaws.{over-length}
 use Rattle.paper.specs.Setup.{Setup, cell, cells, cellFits, next}
 use Rattle.paper.specs.Refusals.{accepted, oneEach, setupLengths}
 use Rattle.paper.specs.Day.{checkOf}
@@ -25,10 +24,10 @@ unfolding setupLengths oneEach
 waters-each s v =
     let each : oneEach (cells s) (setupLengths s) ≡ true = sound-setup s v .lent in eqb-true _ _ (search (and-left, and-right))
 
-module _ (s : Setup) (ok : Charted s) (slots : List ℕ) (slots-are : slots ≡ madeOver (cells s) (slotOf s) (replicate 4096 0))
-    (each : length (s .water) ≡ cells s) where
+module _ (s : Setup) (ok : Charted s) (lent slots : List ℕ) (slots-are : slots ≡ madeOver (cells s) (slotOf s) lent)
+    (sized : length slots ≡ 4096) (each : length (s .water) ≡ cells s) where
   pub slot-at : (i : ℕ) → i < cells s → getD slots i 0 ≡ slotOf s i
-  slot-at i h = rw (slots-are) (over-at (cells s) (slotOf s) (replicate 4096 0) 0 i h)
+  slot-at i h = rw (slots-are) (over-at (cells s) (slotOf s) lent 0 i h)
 
   pub slots-fit : SlotsFit (s .covers) (cells s) slots (s .water)
   unfolding cellFits
@@ -36,7 +35,7 @@ module _ (s : Setup) (ok : Charted s) (slots : List ℕ) (slots-are : slots ≡ 
       record {
         table = record { sized = ok .sized; fit = ok .entered };
         few = ok .few;
-        sized = ap length (slots-are) ∙ over-length (cells s) (slotOf s) (replicate 4096 0) (ok .few);
+        sized = sized;
         slotted = λ i h. rw (slot-at i h) (slot-limit s ok i h);
         each = each;
         watered = λ i h. leb-true _ _ (let fits : cellFits s i ≡ true = ok .celled i h in search (and-left, and-right));

@@ -9,13 +9,15 @@ use native.Mathlib.Nat.{not-suc-le-zero, le-of-suc-le-suc, le-refl, le-trans, le
 use native.Mathlib.Numerals.{add-one}
 use native.Mathlib.Omega.{arith}
 use lib.Dec.{eqb, leb, ltb}
-use lib.ListN.{length, getD, set, replicate, length-set, length-replicate, getD-replicate, List·getD-eq-default}
+use lib.ListN.{length, getD, set, length-set, List·getD-eq-default}
 use lib.Seq.{getD-set-same, getD-set-other}
 use borrow.Author.Tests.{eqb-true, eqb-false, lt-ltb, le-ltb, le-leb, lt-leb, ltb-false}
+use Rattle.theory.specs.Lists.{madeOver}
 use Rattle.theory.specs.Sums.{sum, given}
 use Rattle.theory.specs.Lowest.{Found, at, nowhere, lowest}
 use Rattle.theory.specs.Ways.{onRing, OneWay}
 use Rattle.theory.proofs.Cases.{byCases, below-or-not, and-second}
+use Rattle.theory.proofs.ListLaws.{over-length}
 use Rattle.theory.proofs.SumLaws.{sum-most, given-most}
 use Rattle.theory.proofs.LowestLaws.{lowest-cong, lowest-none, none-lowest}
 use Rattle.records.specs.declared.answers.Place.{Place}
@@ -23,6 +25,7 @@ use Rattle.records.specs.declared.answers.Place.the-variants.{Nowhere}
 use Rattle.records.specs.Places.{placeIn}
 use Rattle.survey.specs.Routes.{nextIn, WaysIn, OrderedBy, OrderOrRing}
 use Rattle.survey.specs.Peeling.{leading, waits, queued, Counted, Blank, Gathered, Queue, GatheredIn, QueueIn, ahead, PeeledIn}
+use Rattle.survey.proofs.WayArrays.{over-at}
 use Rattle.survey.proofs.OrderLaws.{leads, elsewhere, one-more, no-places, without, without-it, without-other, start, room, waiting, shut, left-behind, still-waiting, new, joins, leftover-rings, peeled, peeled-who}
 
 -- inside a list the default is of no account
@@ -44,18 +47,11 @@ module _ {n : ℕ} {ways : List ℕ} (w : WaysIn n ways) where
       }
 
 module _ {n : ℕ} {next : ℕ → ℕ} where
-  pub count-none : Counted n next 0 (replicate 4096 0)
-  count-none =
+  pub count-none : (l : List ℕ) → length l ≡ 4096 → n ≤ 4096 → Counted n next 0 (madeOver n (λ i. 0) l)
+  count-none l sized most =
       record {
-        sized = length-replicate {A = ℕ} 4096 0;
-        counts = λ i h.
-            below-or-not i 4096
-            (λ l. omega (arith, getD-replicate {A = ℕ} 4096 i 0 0 l, no-places (leading next i)))
-            (λ l. omega (
-              arith,
-              List·getD-eq-default {A = ℕ} (replicate 4096 0) 0 {n = i} (omega (arith, length-replicate {A = ℕ} 4096 0)),
-              no-places (leading next i),
-            ));
+        sized = over-length {A = ℕ} n _ l (omega (arith, sized)) ∙ sized;
+        counts = λ i h. omega (arith, over-at n (λ k. 0) l 0 i h, no-places (leading next i));
       }
 
   module _ {k : ℕ} {l : List ℕ} (c : Counted n next k l) where

@@ -96,34 +96,35 @@ module _ (s : Setup) where
           all-pass e = cells-pass ∙ pass-many (single (seasonFits s) season ∷ []) ringTest free ∙ pass-single [] _ season e
 
   -- a refusal, in the code's own words
-  pub refuse : (r : Outcome) (why : Refusal) (slots ways order : List ℕ) → verdict (mapTests s) ≡ refused why → r ≡ refusedAs why
-      → Chart s r slots ways order
-  refuse r why slots ways order v e =
+  pub refuse : (lent : List ℕ) (r : Outcome) (why : Refusal) (slots ways order : List ℕ) → verdict (mapTests s) ≡ refused why → r ≡ refusedAs why
+      → Chart s lent r slots ways order
+  refuse lent r why slots ways order v e =
       record {
         outcome = e ∙ sym (ap outcomeIn v);
         mapped = λ a. absurd (let z : _≡_ {A = ℕ} 0 1 = cc in omega arith);
       }
 
 -- the arrays, stage by stage
-module _ (s : Setup) (slots₀ ways₀ order₀ : List ℕ) (pre : Surveyable s slots₀ ways₀ order₀) (size : sizeFits (s .covers) ≡ true)
+module _ (s : Setup) (lent ways₀ : List ℕ) (pre : Surveyable s ways₀) (size : sizeFits (s .covers) ≡ true)
     (none : lowest (entries (s .covers)) (λ k. not (entryFits (s .covers) k)) ≡ nowhere)
-    (index : List ℕ) (known : Indexed (s .covers) (entries (s .covers)) index) where
+    (index : List ℕ) (known : Indexed (s .covers) (entries (s .covers)) index)
+    (sized : length lent ≡ 4096) where
   fit : EntriesFit (s .covers)
   fit = entries-fit s size none
 
   abbrev slot : ℕ → ℕ
   slot = slotAt index (s .cover) (s .group) (s .water)
 
-  pub slots-ask : IndexFits index × (length (s .cover) ≤ 4096) × (length (s .group) ≡ length (s .cover)) × (length (s .water) ≡ length (s .cover)) × (length slots₀ ≡ 4096)
+  pub slots-ask : IndexFits index × (length (s .cover) ≤ 4096) × (length (s .group) ≡ length (s .cover)) × (length (s .water) ≡ length (s .cover)) × (length lent ≡ 4096)
   slots-ask = (
     index-fits (s .covers) index fit known,
     omega (arith, pre .covers, pre .few),
     pre .groups ∙ sym (pre .covers),
     pre .waters ∙ sym (pre .covers),
-    ap length (pre .empty .no-slots) ∙ length-replicate {A = ℕ} 4096 0,
+    sized,
   )
 
-  module _ (r : Place) (slots : List ℕ) (sb : SlotsOrBad (length (s .cover)) slot r slots₀ slots) where
+  module _ (r : Place) (slots : List ℕ) (sb : SlotsOrBad (length (s .cover)) slot r lent slots) where
     search-is : r ≡ placeIn (lowest (cells s) (λ i. not (cellFits s i)))
     search-is =
         sb .lowest-bad
@@ -148,16 +149,19 @@ module _ (s : Setup) (slots₀ ways₀ order₀ : List ℕ) (pre : Surveyable s 
             celled = λ i h. not-false _ (lowest-none _ _ cells-fit i h);
           }
 
-      pub slots-are : slots ≡ madeOver (cells s) (slotOf s) (replicate 4096 0)
+      slots-are : slots ≡ madeOver (cells s) (slotOf s) lent
       unfolding madeOver
       slots-are =
           sb .filled through
-          ∙ rw (pre .covers, pre .empty .no-slots)
-          (ap (λ (l : List ℕ). l ++ drop (cells s) (replicate 4096 0))
+          ∙ rw (pre .covers)
+          (ap (λ (l : List ℕ). l ++ drop (cells s) lent)
           (made-cong (cells s) slot (slotOf s) (λ i h. slot-is s index fit known i (charted .celled i h))))
 
       slot-at : (i : ℕ) → i < cells s → getD slots i 0 ≡ slotOf s i
-      slot-at i h = rw slots-are (over-at (cells s) (slotOf s) (replicate 4096 0) 0 i h)
+      slot-at i h = rw slots-are (over-at (cells s) (slotOf s) lent 0 i h)
+
+      slots-sized : length slots ≡ 4096
+      slots-sized = ap length slots-are ∙ over-length (cells s) (slotOf s) lent (omega (arith, sized, pre .few)) ∙ sized
 
       pub lay-ask : Layable (s .width) (s .height) (s .covers) slots (s .direction) ways₀
       unfolding cells
@@ -165,27 +169,26 @@ module _ (s : Setup) (slots₀ ways₀ order₀ : List ℕ) (pre : Surveyable s 
           record {
             wide = pre .wide;
             few = pre .few;
-            slots-sized = ap length slots-are ∙ over-length (cells s) (slotOf s) (replicate 4096 0) (pre .few);
-            ways-sized = ap length (pre .empty .no-ways) ∙ length-replicate {A = ℕ} 4096 4097;
+            slots-sized = slots-sized;
+            ways-sized = ap length (pre .no-ways) ∙ length-replicate {A = ℕ} 4096 4097;
             each = pre .directions;
             slotted = λ i h. rw (slot-at i h) (slot-limit s charted i h);
           }
 
       module _ (ways : List ℕ) (laid : ways ≡ madeOver (s .width * s .height) (wayAt (s .width) (s .height) (s .covers) slots (s .direction)) ways₀) where
-        pub ways-are : ways ≡ madeOver (cells s) (next s) (replicate 4096 4097)
+        ways-are : ways ≡ madeOver (cells s) (next s) (replicate 4096 4097)
         unfolding madeOver cells
         ways-are =
             laid
-            ∙ rw (pre .empty .no-ways)
+            ∙ rw (pre .no-ways)
             (ap (λ (l : List ℕ). l ++ drop (cells s) (replicate 4096 4097))
             (made-cong (cells s) _ (next s) (λ i h. sym (way-is s charted i h slots (slot-at i h)))))
 
         ways-point : nextIn ways ≡ next s
         ways-point = ap nextIn ways-are ∙ ways-next (cells s) (next s) (pre .few) (next-past s charted (pre .directions))
 
-        pub order-ask : WaysIn (length (s .direction)) ways × (order₀ ≡ replicate 4096 0)
-        order-ask =
-            (rw (pre .directions, ways-are) (ways-in (cells s) (next s) (pre .few)), pre .empty .no-order)
+        pub order-ask : WaysIn (length (s .direction)) ways
+        order-ask = rw (pre .directions, ways-are) (ways-in (cells s) (next s) (pre .few))
 
         module _ (found : Place) (order : List ℕ) (o : OrderOrRing (length (s .direction)) (nextIn ways) found order) where
           ring-is : found ≡ placeIn (lowest (cells s) (onRing (cells s) (next s)))
@@ -201,9 +204,9 @@ module _ (s : Setup) (slots₀ ways₀ order₀ : List ℕ) (pre : Surveyable s 
             ordered-by : OrderedBy (cells s) (next s) order
             ordered-by = rw (ways-point, pre .directions) at (o .ordered straight)
 
-            pub surveyed : seasonFits s ≡ true → Chart s Accepted slots ways order
+            pub surveyed : seasonFits s ≡ true → Chart s lent Accepted slots ways order
             surveyed e =
                 record {
                   outcome = sym (ap outcomeIn (all-pass s size none cells-fit no-ring e));
-                  mapped = λ a. record { slots-are = slots-are; ways-are = ways-are; ordered = ordered-by };
+                  mapped = λ a. record { slots-are = slots-are; slots-sized = slots-sized; ways-are = ways-are; ordered = ordered-by };
                 }

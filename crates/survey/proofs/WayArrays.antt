@@ -11,9 +11,13 @@ use Rattle.theory.proofs.Cases.{below-or-not}
 use Rattle.theory.proofs.ListLaws.{made-length, made-at, over-length, over-ahead}
 use Rattle.survey.specs.Routes.{nextIn, WaysIn}
 
+-- a list over whose front a rule is written: what stands there, and the next place to be written is inside
 pub over-at : (n : ℕ) (f : ℕ → ℕ) (l : List ℕ) (d i : ℕ) → i < n → getD (madeOver n f l) i d ≡ f i
 unfolding madeOver
 over-at n f l d i h = List·getD-append (made n f) (drop n l) d i (rw made-length h) ∙ made-at n f d i h
+
+pub over-room : (f : ℕ → ℕ) (l before : List ℕ) (i : ℕ) → l ≡ madeOver i f before → i < length before → i < length l
+over-room f l before i e h = rw (e, over-length i f before (omega arith)) h
 
 module _ (n : ℕ) (f : ℕ → ℕ) (most : n ≤ 4096) where
   abbrev outside : List ℕ

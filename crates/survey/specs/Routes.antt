@@ -2,7 +2,7 @@
 use mathlib.Core.Path.{_≡_}
 use mathlib.Core.Bool.{cond}
 use mathlib.Core.List.{List}
-use Prim.Native.Nat.{ℕ, _≤_, _<_}
+use Prim.Native.Nat.{ℕ, _/_, _%_, _≤_, _<_}
 use lib.Dec.{eqb}
 use lib.ListN.{length, getD}
 use Rattle.theory.specs.Ways.{UpslopeFirst, onRing}
@@ -15,6 +15,10 @@ use Rattle.records.specs.Places.{placeIn}
 -- the steps as the code numbers them
 unfoldable pub stepOf : ℕ → Step
 stepOf k = cond (eqb k 0) less (cond (eqb k 1) same more)
+
+-- both steps as one number, 4 × the row's + the column's, or 12
+unfoldable pub wayIn : ℕ → Way
+wayIn k = cond (eqb k 12) closed (toward (stepOf (k / 4)) (stepOf (k % 4)))
 
 -- where a cell of that row and column goes
 unfoldable pub goesFrom : ℕ → ℕ → ℕ → ℕ → Way → Goes

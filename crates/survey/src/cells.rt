@@ -42,7 +42,7 @@ pub(crate) fn slots(
     cover: &[u32],
     group: &[u32],
     water: &[u32],
-    slots: &mut [u32; 4096],
+    slots: &mut [u32],
 ) -> Place
     requires { ⌜ (IndexFits (now index)) × (length (now cover) ≤ 4096) × (length (now group) ≡ length (now cover)) × (length (now water) ≡ length (now cover)) × (length (now slots) ≡ 4096) ⌝ }
     ensures { λ r. ⌜ SlotsOrBad (length (now (cover .entry))) (slotAt (now (index .entry)) (now (cover .entry)) (now (group .entry)) (now (water .entry))) r (now (slots .entry)) (now (slots .exit)) ⌝ }

@@ -4,6 +4,7 @@ mod charts;
 mod covers;
 mod ground;
 mod order;
+mod setups;
 mod ways;
 
 pub use charts::clear;
@@ -13,3 +14,5 @@ pub use ground::largest_recharges;
 pub use ground::root_depths;
 pub use ground::season_figure;
 pub use ground::table_number;
+pub use setups::check;
+pub use setups::fresh;

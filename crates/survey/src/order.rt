@@ -3,7 +3,8 @@
 ghost use mathlib.Core.Path.{_≡_};
 ghost use Prim.Native.Nat.{_≤_};
 ghost use lib.Dec.{ltb};
-ghost use lib.ListN.{replicate};
+ghost use lib.ListN.{length};
+ghost use Rattle.theory.specs.Lists.{madeOver};
 ghost use Rattle.theory.specs.Lowest.{lowest};
 ghost use Rattle.survey.specs.Routes.{nextIn, WaysIn, OrderOrRing};
 ghost use Rattle.records.specs.Places.{placeIn};
@@ -14,11 +15,24 @@ use records::place;
 // One cell to wait for: past every number of a cell.
 const ONE: u32 = 8192;
 
+// No cell waits yet, and no queue stands there. The array is lent as a slice, whose length the prover knows.
+fn none_waiting(n: usize, order: &mut [u32])
+    requires { ⌜ n ≤ length (now order) ⌝ }
+    ensures { λ r. ⌜ now (order .exit) ≡ madeOver n (λ i. 0) (now (order .entry)) ⌝ }
+{
+    let mut i = 0;
+    while i < n {
+        order[i] = 0;
+        i += 1;
+    }
+}
+
 // Each cell is to wait for all that lead to it.
 fn count(n: usize, ways: &[u32; 4096], order: &mut [u32; 4096])
-    requires { ⌜ (WaysIn n (now ways)) × (now order ≡ replicate 4096 0) ⌝ }
+    requires { ⌜ WaysIn n (now ways) ⌝ }
     ensures { λ r. ⌜ Counted n (nextIn (now (ways .entry))) n (now (order .exit)) ⌝ }
 {
+    none_waiting(n, order);
     let mut i = 0;
     while i < n {
         let j = place(ways[i]);
@@ -94,7 +108,7 @@ fn leftover(n: usize, order: &[u32; 4096]) -> Place
 }
 
 pub(crate) fn order(n: usize, ways: &[u32; 4096], order: &mut [u32; 4096]) -> Place
-    requires { ⌜ (WaysIn n (now ways)) × (now order ≡ replicate 4096 0) ⌝ }
+    requires { ⌜ WaysIn n (now ways) ⌝ }
     ensures { λ r. ⌜ OrderOrRing n (nextIn (now (ways .entry))) r (now (order .exit)) ⌝ }
 {
     count(n, ways, order);

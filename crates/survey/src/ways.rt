@@ -1,21 +1,34 @@
 // Where a cell points by its direction byte.
 ghost use mathlib.Core.Path.{_≡_};
-ghost use Prim.Native.Nat.{_*_, _≤_, _<_};
+ghost use Prim.Native.Nat.{_*_, _%_, _≤_, _<_};
 ghost use Rattle.paper.specs.Directions.{wayOf, stepped, cellAt};
 ghost use Rattle.paper.specs.Setup.{pointed};
-ghost use Rattle.survey.specs.Routes.{stepOf, goesFrom};
+ghost use Rattle.survey.specs.Routes.{stepOf, wayIn, goesFrom};
 
 // Past every cell: over the edge, and a closed depression.
 const LEAVES: u32 = 4096;
 
 pub(crate) const STAYS: u32 = 4097;
 
-// A step of a row or a column, with one added so that no number is below 0.
-const LESS: u32 = 0;
+// Both steps of a direction: 4 times the row's and the column's, each 0 for one less, 1 for the same and 2 for one more, so that no number is below 0.
+const UPPER_LEFT: u32 = 0;
 
-const SAME: u32 = 1;
+const UP: u32 = 1;
 
-const MORE: u32 = 2;
+const UPPER_RIGHT: u32 = 2;
+
+const LEFT: u32 = 4;
+
+const RIGHT: u32 = 6;
+
+const LOWER_LEFT: u32 = 8;
+
+const DOWN: u32 = 9;
+
+const LOWER_RIGHT: u32 = 10;
+
+// None of the eight.
+const CLOSED: u32 = 12;
 
 // The cell after a step of the row and one of the column.
 fn toward(width: u32, height: u32, row: u32, column: u32, down: u32, right: u32) -> u32
@@ -39,19 +52,30 @@ fn toward(width: u32, height: u32, row: u32, column: u32, down: u32, right: u32)
     (y - 1) * width + (x - 1)
 }
 
+// The byte's two steps as one number, which the compiler finds in a table. Eight arms with code of their own would often be guessed wrong.
+fn steps(byte: u32) -> u32
+    ensures { λ r. ⌜ (wayIn r ≡ wayOf byte) × (r ≤ 12) × (r % 4 ≤ 2) ⌝ }
+{
+    match byte {
+        1 => RIGHT,
+        2 => LOWER_RIGHT,
+        4 => DOWN,
+        8 => LOWER_LEFT,
+        16 => LEFT,
+        32 => UPPER_LEFT,
+        64 => UP,
+        128 => UPPER_RIGHT,
+        _ => CLOSED,
+    }
+}
+
 pub(crate) fn way(width: u32, height: u32, row: u32, column: u32, byte: u32) -> u32
     requires { ⌜ (row < height) × (column < width) × (width * height ≤ 4096) ⌝ }
     ensures { λ r. ⌜ r ≡ pointed (goesFrom width height row column (wayOf byte)) ⌝ }
 {
-    match byte {
-        1 => toward(width, height, row, column, SAME, MORE),
-        2 => toward(width, height, row, column, MORE, MORE),
-        4 => toward(width, height, row, column, MORE, SAME),
-        8 => toward(width, height, row, column, MORE, LESS),
-        16 => toward(width, height, row, column, SAME, LESS),
-        32 => toward(width, height, row, column, LESS, LESS),
-        64 => toward(width, height, row, column, LESS, SAME),
-        128 => toward(width, height, row, column, LESS, MORE),
-        _ => STAYS,
+    let both = steps(byte);
+    if both == CLOSED {
+        return STAYS;
     }
+    toward(width, height, row, column, both / 4, both % 4)
 }

@@ -1,25 +1,23 @@
--- One day of the program, from its seven numbers to its line: the library's answer on results that are parts of arrays of zeros is the paper's day,
--- the numbers are the paper's record, and what was said of the outcome is what was written.
+-- One day of the program, from its seven numbers to its line: the results are lent from arrays, whose fronts hold what the day before left, the
+-- numbers are the paper's record, and what was said of the outcome is what was written.
 use mathlib.Core.Path.{_≡_, refl, sym, ap, _∙_}
-use mathlib.Core.List.{List, _∷_}
+use mathlib.Core.List.{List, _∷_, _++_}
 use Prim.Native.Nat.{ℕ, zero, suc, _+_, _*_, _≤_}
 use native.Mathlib.Nat.{not-suc-le-zero, le-of-suc-le-suc}
 use native.Mathlib.Omega.{arith}
 use lib.IntN.{ℤ}
-use lib.ListN.{length, getD, take, replicate, length-replicate}
+use lib.ListN.{length, getD, take, drop, replicate, length-replicate}
+use lib.Seq.{length-take-le, length-front, take-at}
 use mir.Syntax.{w32}
 use mir.Val.{toZ, ofZ}
-use Rattle.paper.specs.Day.{Outcome, Totals, dayOf}
+use Rattle.paper.specs.Day.{Results, Totals}
 use Rattle.paper.specs.Refusals.{Verdict, accepted, refused, numberOf, placeOf}
-use Rattle.paper.specs.Setup.{Setup}
-use Rattle.paper.specs.State.{State, Day}
-use Rattle.recharge.specs.Answers.{answered}
-use Rattle.records.specs.declared.answers.Answer.{Answer}
+use Rattle.recharge.specs.Answers.{resultsOf}
 use Rattle.text.specs.Words.{signed}
 use Rattle.text.specs.Lines.{dayLine, refusedLine}
 use Rattle.text.specs.Program.{daysFrom, dayAt, refusal, noResults}
 use Rattle.text.specs.Refusals.{saidOf}
-use Rattle.text.specs.Run.{Coded, OneDay, lineOf, toldAs, Tells}
+use Rattle.text.specs.Run.{Coded, lineOf, toldAs, Tells}
 use Rattle.text.specs.Writing.{Wrote}
 use Rattle.text.specs.declared.days.Told.the-variants.{More, Last}
 use Rattle.text.specs.declared.refusals.Spoken.the-variants.{Accepted, Refused}
@@ -34,20 +32,55 @@ zeros (suc n) (suc m) h = ap (_∷_ 0) (zeros n m (le-of-suc-le-suc h))
 pub part-length : (n m : ℕ) → n ≤ m → n ≡ length (take n (replicate {A = ℕ} m 0))
 part-length n m h = sym (ap length (zeros n m h) ∙ length-replicate {A = ℕ} n 0)
 
--- the library's answer on results of its own
-pub one-day :
-    (s : Setup) (st : State) (d : Day) (n : ℕ) (a : Answer) (soil snow i o e r j : List ℕ) → n ≤ 4096
-    → (let part = take n (replicate {A = ℕ} 4096 0) in
-    answered a soil snow i o e r j ≡ dayOf s st (record { intercepted = part; outflow = part; evapotranspired = part; recharged = part; rejected = part }) d)
-    → OneDay (dayOf s st (noResults n) d) a soil snow
+-- the lent parts of the five arrays of results
+abbrev pub parts : ℕ → List ℕ → List ℕ → List ℕ → List ℕ → List ℕ → Results
+parts n i o e r j = resultsOf (take n i) (take n o) (take n e) (take n r) (take n j)
+
+-- each array has an entry for every cell
+pub record Room (n : ℕ) (i o e r j : List ℕ) : Type 0 where
+  pub intercepted : n ≤ length i
+  pub outflow : n ≤ length o
+  pub evapotranspired : n ≤ length e
+  pub recharged : n ≤ length r
+  pub rejected : n ≤ length j
+
+-- before the first day
+pub no-results :
+    (n m : ℕ) → n ≤ m → (let l = replicate {A = ℕ} m 0 in parts n l l l l l ≡ noResults n)
 unfolding noResults
-one-day s st d n a soil snow i o e r j h q =
-    let all = q ∙ ap (λ (l : List ℕ). dayOf s st (record { intercepted = l; outflow = l; evapotranspired = l; recharged = l; rejected = l }) d) (zeros n 4096 h) in
+no-results n m h = ap (λ (l : List ℕ). resultsOf l l l l l) (zeros n m h)
+
+pub room : (n m : ℕ) → n ≤ m → (let l = replicate {A = ℕ} m 0 in Room n l l l l l)
+room n m h =
+    let long : n ≤ length (replicate {A = ℕ} m 0) = rw length-replicate h in
+    record { intercepted = long; outflow = long; evapotranspired = long; recharged = long; rejected = long }
+
+-- a part that a call wrote is the front of its array, which is as long as before
+module _ (n : ℕ) where
+  abbrev after : List ℕ → List ℕ → List ℕ
+  after l part = part ++ drop n l
+
+  front : (l part : List ℕ) → n ≤ length l → length part ≡ length (take n l) → take n (after l part) ≡ part
+  front l part h k = take-at part (drop n l) n (k ∙ length-take-le n l h)
+
+  long : (l part : List ℕ) → n ≤ length l → length part ≡ length (take n l) → n ≤ length (after l part)
+  long l part h k = rw (length-front l part n k) h
+
+  pub left :
+      (i o e r j i′ o′ e′ r′ j′ : List ℕ) → Room n i o e r j → length i′ ≡ length (take n i) → length o′ ≡ length (take n o)
+      → length e′ ≡ length (take n e) → length r′ ≡ length (take n r) → length j′ ≡ length (take n j)
+      → Room n (after i i′) (after o o′) (after e e′) (after r r′) (after j j′)
+      × (parts n (after i i′) (after o o′) (after e e′) (after r r′) (after j j′) ≡ resultsOf i′ o′ e′ r′ j′)
+  left i o e r j i′ o′ e′ r′ j′ h a b c d f = (
     record {
-      verdict = ap (λ (x : Outcome). x .verdict) all;
-      totals = ap (λ (x : Outcome). x .totals) all;
-      state = ap (λ (x : Outcome). x .state) all;
-    }
+      intercepted = long i i′ (h .intercepted) a;
+      outflow = long o o′ (h .outflow) b;
+      evapotranspired = long e e′ (h .evapotranspired) c;
+      recharged = long r r′ (h .recharged) d;
+      rejected = long j j′ (h .rejected) f;
+    },
+    rw (front i i′ (h .intercepted) a, front o o′ (h .outflow) b, front e e′ (h .evapotranspired) c, front r r′ (h .recharged) d, front j j′ (h .rejected) f) refl,
+  )
 
 -- a day's fields from its first number on, the temperatures as a record keeps them
 module _ (ns : List ℕ) (coded : Coded ns) (from k : ℕ) (start : from ≡ daysFrom ns) where

@@ -76,14 +76,13 @@ module _
     unfolding setup
     each = ap length (laid .directions) ∙ made-length _ _
 
-    pub days-ready : DaysReady ns (5 + length covers + 4 * length direction) grid direction output
+    pub days-ready : DaysReady ns (5 + length covers + 4 * length direction) direction output
     unfolding daysFrom cellsFrom cellCount
     days-ready =
         record {
           coded = lent .coded;
           start = omega (arith, table-length, each);
           numbers = lent .numbers;
-          cells = each;
           few = omega (arith, each, lent .few);
           room = lent .room;
         }

@@ -2,16 +2,12 @@
 use mathlib.Core.Bool.{cond}
 use mathlib.Core.List.{List}
 use mathlib.Core.Path.{_≡_}
-use Prim.Native.Nat.{ℕ, _+_, _*_, _≤_, _<_}
+use Prim.Native.Nat.{ℕ, _+_, _≤_, _<_}
 use lib.Dec.{ltb}
 use lib.ListN.{length, getD, replicate}
 use lib.Seq.{sets}
 use Rattle.paper.specs.Day as paper
 use Rattle.paper.specs.Refusals.{Verdict, accepted, refused}
-use Rattle.records.specs.Calls.{stateOf, verdictAs}
-use Rattle.recharge.specs.Settle.{totalsIn}
-use Rattle.records.specs.declared.answers.Answer.{Answer}
-use Rattle.records.specs.declared.answers.Setup.{Setup}
 use Rattle.text.specs.Lines.{dayLine}
 use Rattle.text.specs.Program.{coverCount, cellCount, daysFrom, refusal, printed}
 use Rattle.text.specs.declared.days.Told.{Told}
@@ -45,19 +41,12 @@ pub record Lent (ns soil snow output : List ℕ) : Type 0 where
   pub room : mostText ≤ length output
 
 -- the days of a run begin at `from`
-pub record DaysReady (ns : List ℕ) (from : ℕ) (setup : Setup) (direction output : List ℕ) : Type 0 where
+pub record DaysReady (ns : List ℕ) (from : ℕ) (direction output : List ℕ) : Type 0 where
   pub coded : Coded ns
   pub start : from ≡ daysFrom ns
   pub numbers : daysFrom ns ≤ length ns
-  pub cells : length direction ≡ setup .width * setup .height
   pub few : length direction ≤ 4096
   pub room : mostText ≤ length output
-
--- a day's answer, with the stores as it left them, is the paper's
-pub record OneDay (day : paper.Outcome) (answer : Answer) (soil snow : List ℕ) : Type 0 where
-  pub verdict : verdictAs (answer .outcome) ≡ day .verdict
-  pub totals : totalsIn (answer .totals) ≡ day .totals
-  pub state : stateOf soil snow (answer .memory) (answer .last) ≡ day .state
 
 -- what a day prints: its line, or its refusal, which ends the run
 unfoldable pub lineOf : ℕ → paper.Totals → Verdict → List ℕ

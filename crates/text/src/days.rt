@@ -3,11 +3,10 @@ ghost use mathlib.Core.Path.{_≡_};
 ghost use Prim.Native.Nat.{_+_, _*_, _≤_};
 ghost use lib.ListN.{length};
 ghost use Rattle.theory.specs.Lists.{made};
-ghost use Rattle.paper.specs.Day.{dayOf};
 ghost use Rattle.records.specs.Calls.{setupOf, stateOf, dayIn, verdictAs};
 ghost use Rattle.recharge.specs.Settle.{totalsIn};
 ghost use Rattle.text.specs.Program.{daysFrom, dayCount, dayAt, noResults, daysText};
-ghost use Rattle.text.specs.Run.{Coded, DaysReady, OneDay, Tells, mostText};
+ghost use Rattle.text.specs.Run.{Coded, DaysReady, Tells, mostText};
 ghost use Rattle.text.specs.Writing.{Wrote};
 ghost use Rattle.text.specs.Lines.{dayLine};
 use crate::fields::tenths;
@@ -49,49 +48,6 @@ fn day_at(numbers: &[u32], from: usize, k: usize) -> DayRecord
     }
 }
 
-// One day of the library. Its results of every cell are not printed, and end here.
-fn one_day(
-    setup: Setup,
-    covers: &[u32],
-    direction: &[u32],
-    cover: &[u32],
-    group: &[u32],
-    water: &[u32],
-    soil: &mut [u32],
-    snow: &mut [u32],
-    memory: Memory,
-    last: Last,
-    day: DayRecord,
-) -> Answer
-    requires { ⌜ length (now direction) ≤ 4096 ⌝ }
-    ensures { λ r. ⌜ OneDay (dayOf (setupOf setup (now (covers .entry)) (now (direction .entry)) (now (cover .entry)) (now (group .entry)) (now (water .entry))) (stateOf (now (soil .entry)) (now (snow .entry)) memory last) (noResults (length (now (direction .entry)))) (dayIn day)) r (now (soil .exit)) (now (snow .exit)) ⌝ }
-{
-    let n = direction.len();
-    let mut intercepted = [0u32; 4096];
-    let mut outflow = [0u32; 4096];
-    let mut evapotranspired = [0u32; 4096];
-    let mut recharged = [0u32; 4096];
-    let mut rejected = [0u32; 4096];
-    recharge::day(
-        setup,
-        covers,
-        direction,
-        cover,
-        group,
-        water,
-        soil,
-        snow,
-        &mut intercepted[..n],
-        &mut outflow[..n],
-        &mut evapotranspired[..n],
-        &mut recharged[..n],
-        &mut rejected[..n],
-        memory,
-        last,
-        day,
-    )
-}
-
 fn day_line(output: &mut [u8], at: usize, serial: u32, totals: Totals) -> usize
     requires { ⌜ at + 168 ≤ length (now output) ⌝ }
     ensures { λ r. ⌜ Wrote 168 at (dayLine serial (totalsIn totals)) (now (output .entry)) (now (output .exit)) r ⌝ }
@@ -130,7 +86,8 @@ fn tell(output: &mut [u8], at: usize, serial: u32, answer: Answer) -> Told
     }
 }
 
-// The days from a state on, up to the first that is refused, and the last line.
+// The days from a state on, up to the first that is refused, and the last line. The results of every cell are not printed: their arrays are made
+// once for all days, and a day finds in them what the day before left.
 pub(crate) fn days(
     numbers: &[u32],
     from: usize,
@@ -146,10 +103,16 @@ pub(crate) fn days(
     last: Last,
     output: &mut [u8],
 ) -> usize
-    requires { ⌜ DaysReady (now numbers) from setup (now direction) (now output) ⌝ }
+    requires { ⌜ DaysReady (now numbers) from (now direction) (now output) ⌝ }
     ensures { λ r. ⌜ Wrote mostText 0 (daysText (setupOf setup (now (covers .entry)) (now (direction .entry)) (now (cover .entry)) (now (group .entry)) (now (water .entry))) (stateOf (now (soil .entry)) (now (snow .entry)) memory last) (noResults (length (now (direction .entry)))) 0 (made (dayCount (now (numbers .entry))) (dayAt (now (numbers .entry))))) (now (output .entry)) (now (output .exit)) r ⌝ }
 {
+    let n = direction.len();
     let count = (numbers.len() - from) / 7;
+    let mut intercepted = [0u32; 4096];
+    let mut outflow = [0u32; 4096];
+    let mut evapotranspired = [0u32; 4096];
+    let mut recharged = [0u32; 4096];
+    let mut rejected = [0u32; 4096];
     let mut memory = memory;
     let mut last = last;
     let mut at = 0;
@@ -157,7 +120,7 @@ pub(crate) fn days(
     let mut k = 0;
     while k < count {
         let day = day_at(numbers, from, k);
-        let answer = one_day(
+        let answer = recharge::day(
             setup,
             covers,
             direction,
@@ -166,6 +129,11 @@ pub(crate) fn days(
             water,
             soil,
             snow,
+            &mut intercepted[..n],
+            &mut outflow[..n],
+            &mut evapotranspired[..n],
+            &mut recharged[..n],
+            &mut rejected[..n],
             memory,
             last,
             day,

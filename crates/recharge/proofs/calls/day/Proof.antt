@@ -15,8 +15,8 @@ use borrow.Author.Needs.{needs}
 use Rattle.recharge.proofs.calls.day.Statement.{statement}
 use Rattle.recharge.proofs.calls.day.Tie as tie
 
-tests-requires : tie.Need-tests-requires
-tests-requires c κs = search needs
+admit-requires : tie.Need-admit-requires
+admit-requires c κs = search needs
 
 enum-told : tie.Need-enum-told
 enum-told c = search needs
@@ -34,14 +34,14 @@ returns : tie.Need-returns
 unfolding verdictOf lengthsOf
 returns c =
     let at-match = c .before in
-    let at-tests = at-match .before in
-    let a = at-tests .before .before .before .before .before .before .before .before .before .before .before .before .before .before .before .before .before .before .args in
+    let at-admit = at-match .before in
+    let a = at-admit .before .before .before .before .before .before .before .before .before .before .before .before .before .before .before .before .before .before .args in
     let s = setupOf (a .setup) (a .covers .now) (a .direction .now) (a .cover .now) (a .group .now) (a .water .now) in
     let st = stateOf (a .soil .now) (a .snow .now) (a .memory) (a .last) in
     let results = resultsOf (a .intercepted .now) (a .outflow .now) (a .evapotranspired .now) (a .recharged .now) (a .rejected .now) in
     let d = dayIn (a .day) in
     refused-answer s st results d _ _ _ _ (c .refused .ensures .0) (c .refused .ensures .1)
-    (λ k. stateOf (a .soil .now) (a .snow .now) (c .refused .ensures .2 k) (c .refused .ensures .3 k)) (at-tests .tests .ensures .outcome)
+    (λ k. stateOf (a .soil .now) (a .snow .now) (c .refused .ensures .2 k) (c .refused .ensures .3 k)) (at-admit .admit .ensures .outcome)
     (λ e. miss (1 ∷ 2 ∷ 3 ∷ 4 ∷ 5 ∷ 6 ∷ 7 ∷ 8 ∷ 9 ∷ 10 ∷ []) 0 tt (rw e at (at-match .match .keys2)))
 
 today-of-requires : tie.Need-today-of-requires
@@ -52,15 +52,15 @@ unfolding verdictOf lengthsOf today growing
 run-requires c κs =
     let at-today-of = c .before .before .before .before .before .before .before .before .before .before in
     let at-enum-told = at-today-of .before in
-    let at-tests = at-enum-told .before .before in
-    let a = at-tests .before .before .before .before .before .before .before .before .before .before .before .before .before .before .before .before .before .before .args in
+    let at-admit = at-enum-told .before .before in
+    let a = at-admit .before .before .before .before .before .before .before .before .before .before .before .before .before .before .before .before .before .before .args in
     let s = setupOf (a .setup) (a .covers .now) (a .direction .now) (a .cover .now) (a .group .now) (a .water .now) in
     let st = stateOf (a .soil .now) (a .snow .now) (a .memory) (a .last) in
     let results = resultsOf (a .intercepted .now) (a .outflow .now) (a .evapotranspired .now) (a .recharged .now) (a .rejected .now) in
     let d = dayIn (a .day) in
-    let passed = accepted-back _ (sym (at-enum-told .enum-told .given .1) ∙ at-tests .tests .ensures .outcome) in
+    let passed = accepted-back _ (sym (at-enum-told .enum-told .given .1) ∙ at-admit .admit .ensures .outcome) in
     let ok = sound-day s st results d passed in
-    runnable s st results d _ _ _ ok (at-tests .tests .ensures .mapped passed) _ (at-today-of .today-of .ensures ∙ today-fits (gridOf (a .setup)) _ _ (ok .day) (ok .memory))
+    runnable s st results d _ _ _ _ ok (at-admit .admit .ensures .mapped passed) _ (at-today-of .today-of .ensures ∙ today-fits (gridOf (a .setup)) _ _ (ok .day) (ok .memory))
 
 next-requires : tie.Need-next-requires
 next-requires c κs = search needs
@@ -92,22 +92,22 @@ returns-2 c =
     let at-run = c .before .before .before .before .before .before .before .before .before .before .before .before .before .before .before in
     let at-today-of = at-run .before .before .before .before .before .before .before .before .before .before .before in
     let at-enum-told = at-today-of .before in
-    let at-tests = at-enum-told .before .before in
-    let a = at-tests .before .before .before .before .before .before .before .before .before .before .before .before .before .before .before .before .before .before .args in
+    let at-admit = at-enum-told .before .before in
+    let a = at-admit .before .before .before .before .before .before .before .before .before .before .before .before .before .before .before .before .before .before .args in
     let s = setupOf (a .setup) (a .covers .now) (a .direction .now) (a .cover .now) (a .group .now) (a .water .now) in
     let st = stateOf (a .soil .now) (a .snow .now) (a .memory) (a .last) in
     let results = resultsOf (a .intercepted .now) (a .outflow .now) (a .evapotranspired .now) (a .recharged .now) (a .rejected .now) in
     let d = dayIn (a .day) in
-    let passed = accepted-back _ (sym (at-enum-told .enum-told .given .1) ∙ at-tests .tests .ensures .outcome) in
+    let passed = accepted-back _ (sym (at-enum-told .enum-told .given .1) ∙ at-admit .admit .ensures .outcome) in
     let ok = sound-day s st results d passed in
-    accepted-answer s st results d _ _ _ ok (at-tests .tests .ensures .mapped passed) passed _ (at-enum-told .enum-told .given .1) _ (c .next .ensures)
+    accepted-answer s st results d _ _ _ _ ok (at-admit .admit .ensures .mapped passed) passed _ (at-enum-told .enum-told .given .1) _ (c .next .ensures)
     _ (at-today-of .today-of .ensures ∙ today-fits (gridOf (a .setup)) _ _ (ok .day) (ok .memory)) _ _ _ _ _ _ _ _ (at-run .run .ensures)
 
 pub day-spec : {M : Type 1} → statement M
 day-spec =
     tie.close
     (tie.spec
-    tests-requires
+    admit-requires
     enum-told
     refused-requires
     same-length

@@ -16,7 +16,7 @@ use Rattle.survey.specs.Cells.{cellFrom}
 use Rattle.survey.proofs.CoverLaws.{count-limit}
 use Rattle.recharge.specs.CoverDay.{heldOf, wetOf, fallOf, codeOf}
 use Rattle.recharge.specs.Routing.{Coded}
-use Rattle.recharge.proofs.SlotNumbers.{slot-number}
+use Rattle.survey.proofs.SlotNumbers.{slot-number}
 use Rattle.recharge.proofs.LoopLaws.{wrote}
 use Rattle.recharge.proofs.CoverDayLaws.{held-most, wet-most, fall-most, coded, held-any, wet-any, fall-any, code-any, by-slot}
 use Rattle.recharge.proofs.cover_day.cover_days.Statement.{statement}

@@ -1,5 +1,6 @@
 -- `run::run` meets its contract: each pass is handed what the one before it left.
 use Rattle.recharge.proofs.RunLaws.{own-ask, route-ask, settle-ask, one-each, ran}
+use Rattle.survey.proofs.GroundLaws.{rooted, largest-by-slot}
 use borrow.Author.Needs.{needs}
 use Rattle.recharge.proofs.run.run.Statement.{statement}
 use Rattle.recharge.proofs.run.run.Tie as tie
@@ -28,17 +29,25 @@ route-requires c κs =
     let d = covered o in
     route-ask _ _ _ _ _ _ _ _ _ _ _ _ _ (start d .pre) _ _ _ _ (d .cover-days .ensures) _ (o .own-water .ensures)
 
+root-depths-requires : tie.Need-root-depths-requires
+root-depths-requires c κs = search needs
+
+largest-recharges-requires : tie.Need-largest-recharges-requires
+largest-recharges-requires c κs = search needs
+
 retention-requires : tie.Need-retention-requires
 retention-requires c κs = search needs
 
 settle-requires : tie.Need-settle-requires
 settle-requires c κs =
-    let at-retention = c .before .before .before .before .before .before .before .before .before .before .before in
-    let r = at-retention .before .before .before in
+    let at-retention = c .before .before .before .before .before .before .before .before .before .before .before .before .before .before in
+    let r = at-retention .before .before .before .before .before .before .before in
     let o = owned r in
     let d = covered o in
     settle-ask _ _ _ _ _ _ _ _ _ _ _ _ _ (start d .pre) _ _ _ _ (d .cover-days .ensures) _ (o .own-water .ensures)
-    _ _ (r .route .ensures) _ (at-retention .retention .ensures)
+    _ _ (r .route .ensures) _ _ _ (at-retention .retention .ensures)
+    (rooted _ (start d .pre .cells .table) _ _ (at-retention .before .before .before .root-depths .ensures))
+    (largest-by-slot _ (start d .pre .cells .table) _ _ (at-retention .before .largest-recharges .ensures))
 
 same-length : tie.Need-same-length
 same-length c = search needs
@@ -51,7 +60,7 @@ same-length-3 c = search needs
 
 same-length-4 : tie.Need-same-length-4
 same-length-4 c =
-    let r = c .before .before .before .before .before .before .before .before .before .before .before .before .before .before .before .before .before .before .before .before .before .before .before .before .before .before .before in
+    let r = c .before .before .before .before .before .before .before .before .before .before .before .before .before .before .before .before .before .before .before .before .before .before .before .before .before .before .before .before .before .before .before .before .before .before in
     let o = owned r in
     let d = covered o in
     one-each _ _ _ _ _ _ _ _ _ _ _ _ _ (start d .pre) _ _ _ _ (d .cover-days .ensures) _ (o .own-water .ensures) _ _ (r .route .ensures)
@@ -68,7 +77,7 @@ same-length-7 c = search needs
 returns : tie.Need-returns
 returns c =
     let at-settle = c .before .before .before .before .before .before .before .before .before .before .before .before in
-    let r = at-settle .before .before .before .before .before .before .before .before .before .before .before .before .before .before .before in
+    let r = at-settle .before .before .before .before .before .before .before .before .before .before .before .before .before .before .before .before .before .before .before .before .before .before in
     let o = owned r in
     let d = covered o in
     ran _ _ _ _ _ _ _ _ _ _ _ _ _ (start d .pre) _ _ _ _ (d .cover-days .ensures) _ (o .own-water .ensures)
@@ -81,6 +90,8 @@ run-spec =
     cover-days-requires
     own-water-requires
     route-requires
+    root-depths-requires
+    largest-recharges-requires
     retention-requires
     settle-requires
     same-length

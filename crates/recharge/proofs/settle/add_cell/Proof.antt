@@ -12,29 +12,32 @@ add-stored c = search needs
 add-stored-2 : tie.Need-add-stored-2
 add-stored-2 c = search needs
 
-add-t6 : tie.Need-add-t6
-add-t6 c = search needs
+add-t5 : tie.Need-add-t5
+add-t5 c = search needs
 
-add-t8 : tie.Need-add-t8
-add-t8 c = search needs
+add-t7 : tie.Need-add-t7
+add-t7 c = search needs
 
-add-t10 : tie.Need-add-t10
-add-t10 c = search needs
+add-t9 : tie.Need-add-t9
+add-t9 c = search needs
 
-add-t12 : tie.Need-add-t12
-add-t12 c = let p = c .before .before .before .before .before .before .before .before .before .before .pre in
+add-t11 : tie.Need-add-t11
+add-t11 c =
+    let p = c .before .before .before .before .before .before .before .before .before .before .pre in
     let room = p .0 in
     let fits = p .2 in
     omega (arith, p .3)
 
-add-t14 : tie.Need-add-t14
-add-t14 c = let p = c .before .before .before .before .before .before .before .before .before .before .before .before .pre in
+add-t13 : tie.Need-add-t13
+add-t13 c =
+    let p = c .before .before .before .before .before .before .before .before .before .before .before .before .pre in
     let room = p .0 in
     let fits = p .2 in
     omega (arith, p .3)
 
-add-t16 : tie.Need-add-t16
-add-t16 c = let p = c .before .before .before .before .before .before .before .before .before .before .before .before .before .before .pre in
+add-t15 : tie.Need-add-t15
+add-t15 c =
+    let p = c .before .before .before .before .before .before .before .before .before .before .before .before .before .before .pre in
     let room = p .0 in
     let fits = p .2 in
     omega (arith, p .3)
@@ -46,4 +49,4 @@ returns c = refl
 pub add-cell-spec : {M : Type 1} → statement M
 add-cell-spec =
     tie.close
-    (tie.spec add-stored add-stored-2 add-t6 add-t8 add-t10 add-t12 add-t14 add-t16 returns)
+    (tie.spec add-stored add-stored-2 add-t5 add-t7 add-t9 add-t11 add-t13 add-t15 returns)

@@ -1,5 +1,5 @@
 -- `cells::slots` meets its contract: the cells passed so far have their slots in the array.
-use mathlib.Core.Path.{_≡_, sym, _∙_}
+use mathlib.Core.Path.{_≡_, sym, ap, _∙_}
 use Prim.Native.Nat.{ℕ, _≤_, _-_}
 use native.Mathlib.Nat.{not-suc-le-zero}
 use native.Mathlib.Numerals.{add-one}
@@ -10,9 +10,10 @@ use borrow.Author.Count.{below-more}
 use borrow.Author.Needs.{needs}
 use borrow.Author.Tests.{eq-eqb, ne-eqb}
 use Rattle.theory.specs.Lists.{madeOver}
-use Rattle.theory.proofs.ListLaws.{over-none, over-more}
+use Rattle.theory.proofs.ListLaws.{over-none, over-more, over-length}
 use Rattle.survey.specs.Slots.{slotAt}
 use Rattle.survey.proofs.PlaceLaws.{PassedTo, found-place, no-place}
+use Rattle.survey.proofs.WayArrays.{over-room}
 use Rattle.survey.proofs.cells.slots.Statement.{statement}
 use Rattle.survey.proofs.cells.slots.Tie as tie
 
@@ -48,7 +49,10 @@ shared-slice-read-slot-3 : tie.Need-shared-slice-read-slot-3 Inv-loop μ-loop
 shared-slice-read-slot-3 c = search needs
 
 slot-requires : tie.Need-slot-requires Inv-loop μ-loop
-slot-requires c κs = c .before .before .before .before .before .before .before .before .pre .0
+slot-requires c κs = c .before .before .before .before .before .before .before .before .before .pre .0
+
+same-length : tie.Need-same-length Inv-loop μ-loop
+same-length c = let inv = c .before .before .before .before .before .before .loop .inv in ap length (inv .3) ∙ over-length _ _ _ (omega arith)
 
 returns : tie.Need-returns Inv-loop μ-loop
 returns c =
@@ -63,8 +67,8 @@ returns c =
 mul-slots : tie.Need-mul-slots Inv-loop μ-loop
 mul-slots c = search needs
 
-element-write-slots : tie.Need-element-write-slots Inv-loop μ-loop
-element-write-slots c = search needs
+slice-write-slots : tie.Need-slice-write-slots Inv-loop μ-loop
+slice-write-slots c = over-room _ _ _ _ (c .before .before .before .before .before .before .loop .inv .3) (omega arith)
 
 add-i : tie.Need-add-i Inv-loop μ-loop
 add-i c = search needs
@@ -81,10 +85,13 @@ loop-again c =
       rw (c .before .slot .ensures, inv .3, add-one) (over-more _ _ _ (omega arith)),
     )
 
+same-length-2 : tie.Need-same-length-2 Inv-loop μ-loop
+same-length-2 c = ap length (c .before .loop .inv .3) ∙ over-length _ _ _ (omega arith)
+
 returns-2 : tie.Need-returns-2 Inv-loop μ-loop
 returns-2 c =
     let inv = c .before .loop .inv in
-    let all : c .before .loop .i ≡ length (c .before .before .before .before .before .args .cover .now) = omega arith in
+    let all : c .before .loop .i ≡ length (c .before .before .before .before .before .before .args .cover .now) = omega arith in
     record {
       lowest-bad = no-place _ _ _ (inv .2) (c .loop-test .left);
       filled = λ e. rw all at (inv .3);
@@ -104,10 +111,12 @@ slots-spec =
     mul-slot-3
     shared-slice-read-slot-3
     slot-requires
+    same-length
     returns
     mul-slots
-    element-write-slots
+    slice-write-slots
     add-i
     loop-less
     loop-again
+    same-length-2
     returns-2)

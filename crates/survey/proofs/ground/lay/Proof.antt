@@ -10,7 +10,7 @@ use Rattle.theory.specs.Lists.{madeOver}
 use Rattle.theory.proofs.ListLaws.{over-none, over-more, over-length}
 use Rattle.paper.specs.Covers.{entries}
 use Rattle.survey.specs.Grounds.{groupNumberAt}
-use Rattle.survey.proofs.GroundLaws.{room}
+use Rattle.survey.proofs.WayArrays.{over-room}
 use Rattle.survey.proofs.ground.lay.Statement.{statement}
 use Rattle.survey.proofs.ground.lay.Tie as tie
 
@@ -37,7 +37,7 @@ mul-numbers : tie.Need-mul-numbers Inv-loop μ-loop
 mul-numbers c = search needs
 
 slice-write-numbers : tie.Need-slice-write-numbers Inv-loop μ-loop
-slice-write-numbers c = room _ _ _ _ (c .before .before .loop .inv .2) (omega arith)
+slice-write-numbers c = over-room _ _ _ _ (c .before .before .loop .inv .2) (omega arith)
 
 add-slot : tie.Need-add-slot Inv-loop μ-loop
 add-slot c = search needs

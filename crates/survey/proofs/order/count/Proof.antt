@@ -1,4 +1,4 @@
--- `recharge::order::count` meets its contract. The invariant: each entry has the number of cells below i that lead there; a turn adds
+-- `order::count` meets its contract. The invariant: each entry has the number of cells below i that lead there; a turn adds
 -- cell i's way, which a law on counts takes in, inside or out. The measure is what is left of n.
 use Rattle.survey.proofs.order.count.Statement.{statement}
 use mathlib.Core.Path.{_≡_, sym, _∙_, subst}
@@ -22,19 +22,26 @@ module _ (c : tie.Joined1 Inv-loop μ-loop) where
   abbrev at-loop : tie.At-loop Inv-loop μ-loop
   at-loop = c .before .before .before .before
 
-  way : nextIn (at-loop .before .args .ways .now) (at-loop .loop .i) ≡ c .before .place .result
+  abbrev start : tie.Start Inv-loop μ-loop
+  start = at-loop .before .before .before
+
+  way : nextIn (start .args .ways .now) (at-loop .loop .i) ≡ c .before .place .result
   way =
-      let w = at-loop .before .pre .0 in
+      let w = start .pre in
       sym (way-next w (at-loop .loop .i) (omega (arith, w .most))) ∙ sym (c .before .place .ensures)
 
+none-waiting-requires : tie.Need-none-waiting-requires Inv-loop μ-loop
+none-waiting-requires c κs = let m = c .before .pre .most in rw (c .none-waiting-arg .given .0 .1) m
+
 loop-holds : tie.Need-loop-holds Inv-loop μ-loop
-loop-holds c = (search needs, rw (c .pre .1) count-none)
+loop-holds c =
+    (search needs, rw (c .none-waiting .ensures) (count-none _ (c .before .none-waiting-arg .given .0 .1) (c .before .before .pre .most)))
 
 mul-place : tie.Need-mul-place Inv-loop μ-loop
 mul-place c = search needs
 
 element-copy-out-place : tie.Need-element-copy-out-place Inv-loop μ-loop
-element-copy-out-place c = let m = c .before .before .pre .0 .most in omega arith
+element-copy-out-place c = let m = c .before .before .before .before .pre .most in omega arith
 
 place-requires : tie.Need-place-requires Inv-loop μ-loop
 place-requires c κs = search needs
@@ -47,7 +54,7 @@ element-copy-out-order c = search needs
 
 add-order : tie.Need-add-order Inv-loop μ-loop
 add-order c = let at = c .before .before .before .before .before in
-    let m = at .before .pre .0 .most in
+    let m = at .before .before .before .pre .most in
     record { fits = omega (arith, count-fits (at .loop .inv .1) (omega arith) (c .before .before .place .result) (omega arith)) }
 
 element-write-order : tie.Need-element-write-order Inv-loop μ-loop
@@ -61,18 +68,18 @@ loop-less c = search needs
 
 loop-again : tie.Need-loop-again Inv-loop μ-loop
 loop-again c = let at = at-loop c in
-    let n = at .before .args .n in
-    let next = nextIn (at .before .args .ways .now) in (
+    let n = start c .args .n in
+    let next = nextIn (start c .args .ways .now) in (
       search needs,
       ⊎-elim
           (λ w. subst (λ (l : List ℕ). Counted n next (at .loop .i + 1) l) (sym (w .2))
-          (count-inside (at .loop .inv .1) (c .before .place .result) (way c) (omega arith) (at .before .pre .0 .most)))
+          (count-inside (at .loop .inv .1) (c .before .place .result) (way c) (omega arith) (start c .pre .most)))
           (λ w. subst (λ (l : List ℕ). Counted n next (at .loop .i + 1) l) (sym (w .1)) (count-outside (at .loop .inv .1) (omega (arith, way c))))
           (c .if1 .came),
     )
 
 returns : tie.Need-returns Inv-loop μ-loop
-returns c = let all : c .before .loop .i ≡ c .before .before .args .n = omega arith in rw all at (c .before .loop .inv .1)
+returns c = let all : c .before .loop .i ≡ c .before .before .before .before .args .n = omega arith in rw all at (c .before .loop .inv .1)
 
 pub count-spec : {M : Type 1} → statement M
 count-spec =
@@ -80,6 +87,7 @@ count-spec =
     (tie.spec
     Inv-loop
     μ-loop
+    none-waiting-requires
     loop-holds
     mul-place
     element-copy-out-place

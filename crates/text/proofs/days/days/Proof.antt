@@ -1,33 +1,36 @@
 -- `days::days` meets its contract. The loop's invariant: the run is underway, so that what stands in the buffer and the text of the days that are
--- left are the whole text; a day takes at most 168 bytes. The laws of a run underway are the loop's three ways on.
+-- left are the whole text; a day takes at most 168 bytes, and finds in the lent parts of the five arrays the results that the day before left.
+-- The laws of a run underway are the loop's three ways on.
 use Rattle.text.proofs.days.days.Statement.{statement}
 use Rattle.text.proofs.days.days.Tie as tie
-use mathlib.Core.Path.{_≡_}
+use mathlib.Core.Path.{_≡_, sym}
 use Prim.Native.Nat.{_-_, _≤_, _<_}
 use native.Mathlib.Omega.{arith}
 use borrow.Author.Needs.{needs}
 use lib.ListN.{length}
+use lib.Seq.{length-take-le}
 use Rattle.theory.specs.Lists.{made}
-use Rattle.paper.specs.Setup.{cells}
 use Rattle.records.specs.Calls.{setupOf, stateOf, dayIn}
-use Rattle.text.specs.Program.{dayCount, dayAt}
+use Rattle.text.specs.Program.{dayCount, dayAt, noResults}
+use Rattle.text.proofs.OneDayLaws.{parts, Room, no-results, room, left}
 use Rattle.text.proofs.RunLaws.{Underway, underway-first, day-count, all-told, told-last, told-more}
 
 abbrev Inv-loop : tie.InvT-loop
-Inv-loop numbers from setup covers direction cover group water soil₀ snow₀ output₀ count memory₀ last₀ at₀ done₀ k₀ soil snow output memory last at done k =
-    (k ≤ count) × (length soil ≡ length soil₀) × (length snow ≡ length snow₀)
-    × Underway (setupOf setup covers direction cover group water) (length direction) (stateOf soil₀ snow₀ memory₀ last₀) (made (dayCount numbers) (dayAt numbers)) output₀ output (stateOf soil snow memory last) at done k
+Inv-loop numbers from setup covers direction cover group water soil₀ snow₀ output₀ n count intercepted₀ outflow₀ evapotranspired₀ recharged₀ rejected₀ memory₀ last₀ at₀ done₀ k₀ soil snow output intercepted outflow evapotranspired recharged rejected memory last at done k =
+    (k ≤ count) × (length soil ≡ length soil₀) × (length snow ≡ length snow₀) × Room n intercepted outflow evapotranspired recharged rejected
+    × Underway (setupOf setup covers direction cover group water) (stateOf soil₀ snow₀ memory₀ last₀) (noResults n) (made (dayCount numbers) (dayAt numbers))
+    output₀ output (stateOf soil snow memory last) (parts n intercepted outflow evapotranspired recharged rejected) at done k
 
 abbrev μ-loop : tie.MeasureT-loop
-μ-loop numbers from setup covers direction cover group water soil₀ snow₀ output₀ count memory₀ last₀ at₀ done₀ k₀ soil snow output memory last at done k =
+μ-loop numbers from setup covers direction cover group water soil₀ snow₀ output₀ n count intercepted₀ outflow₀ evapotranspired₀ recharged₀ rejected₀ memory₀ last₀ at₀ done₀ k₀ soil snow output intercepted outflow evapotranspired recharged rejected memory last at done k =
     count - k
 
 -- the places that the needs name: from a day's telling back to the library's day, its numbers, the loop's head and the start
-abbrev day : tie.After-tell Inv-loop μ-loop → tie.After-one-day Inv-loop μ-loop
-day tell = tell .before .before .before .before .before .before
+abbrev day : tie.After-tell Inv-loop μ-loop → tie.After-day Inv-loop μ-loop
+day tell = tell .before .before .before .before .before .before .before .before .before .before .before
 
-abbrev date : tie.After-one-day Inv-loop μ-loop → tie.After-day-at Inv-loop μ-loop
-date day = day .before .before .before
+abbrev date : tie.After-day Inv-loop μ-loop → tie.After-day-at Inv-loop μ-loop
+date day = day .before .before .before .before .before .before .before .before
 
 abbrev head : tie.After-day-at Inv-loop μ-loop → tie.At-loop Inv-loop μ-loop
 head date = date .before .before
@@ -39,17 +42,48 @@ sub-count : tie.Need-sub-count Inv-loop μ-loop
 sub-count c = let p = c .before .before .before .before .before .before .before .before .before .pre in omega (arith, p .start, p .numbers)
 
 loop-holds : tie.Need-loop-holds Inv-loop μ-loop
-loop-holds c = (search needs, search needs, search needs, underway-first _ _ _ _ _)
+loop-holds c = let few = c .before .before .before .before .before .before .before .before .before .pre .few in
+    (search needs, search needs, search needs, room _ 4096 few, underway-first _ _ _ _ _ _ (no-results _ 4096 few))
 
 day-at-requires : tie.Need-day-at-requires Inv-loop μ-loop
 day-at-requires c κs = let p = start (c .before) .pre in (p .coded, p .start, omega (arith, p .numbers, p .start, c .loop-test .taken))
 
-one-day-requires : tie.Need-one-day-requires Inv-loop μ-loop
-one-day-requires c κs = start (head (c .before .before)) .pre .few
+array-borrow-prefix-intercepted : tie.Need-array-borrow-prefix-intercepted Inv-loop μ-loop
+array-borrow-prefix-intercepted c = head (c .before .before) .loop .inv .3 .intercepted
+
+slice-aggregate-day : tie.Need-slice-aggregate-day Inv-loop μ-loop
+slice-aggregate-day c = sym (length-take-le _ _ (head (c .before .before .before) .loop .inv .3 .intercepted))
+
+array-borrow-prefix-outflow : tie.Need-array-borrow-prefix-outflow Inv-loop μ-loop
+array-borrow-prefix-outflow c = head (c .before .before .before) .loop .inv .3 .outflow
+
+slice-aggregate-day-2 : tie.Need-slice-aggregate-day-2 Inv-loop μ-loop
+slice-aggregate-day-2 c = sym (length-take-le _ _ (head (c .before .before .before .before) .loop .inv .3 .outflow))
+
+array-borrow-prefix-evapotranspired : tie.Need-array-borrow-prefix-evapotranspired Inv-loop μ-loop
+array-borrow-prefix-evapotranspired c = head (c .before .before .before .before) .loop .inv .3 .evapotranspired
+
+slice-aggregate-day-3 : tie.Need-slice-aggregate-day-3 Inv-loop μ-loop
+slice-aggregate-day-3 c = sym (length-take-le _ _ (head (c .before .before .before .before .before) .loop .inv .3 .evapotranspired))
+
+array-borrow-prefix-recharged : tie.Need-array-borrow-prefix-recharged Inv-loop μ-loop
+array-borrow-prefix-recharged c = head (c .before .before .before .before .before) .loop .inv .3 .recharged
+
+slice-aggregate-day-4 : tie.Need-slice-aggregate-day-4 Inv-loop μ-loop
+slice-aggregate-day-4 c = sym (length-take-le _ _ (head (c .before .before .before .before .before .before) .loop .inv .3 .recharged))
+
+array-borrow-prefix-rejected : tie.Need-array-borrow-prefix-rejected Inv-loop μ-loop
+array-borrow-prefix-rejected c = head (c .before .before .before .before .before .before) .loop .inv .3 .rejected
+
+slice-aggregate-day-5 : tie.Need-slice-aggregate-day-5 Inv-loop μ-loop
+slice-aggregate-day-5 c = sym (length-take-le _ _ (head (c .before .before .before .before .before .before .before) .loop .inv .3 .rejected))
+
+day-requires : tie.Need-day-requires Inv-loop μ-loop
+day-requires c κs = search needs
 
 tell-requires : tie.Need-tell-requires Inv-loop μ-loop
-tell-requires c κs = let at = date (c .before .before .before .before .before) in
-    let u = head at .loop .inv .3 in
+tell-requires c κs = let at = date (c .before .before .before .before .before .before .before .before .before .before) in
+    let u = head at .loop .inv .4 in
     let p = start (head at) .pre in
     omega (arith, u .placed, u .long, p .room, p .coded .few, at .before .loop-test .taken)
 
@@ -60,13 +94,15 @@ enum-known-next-2 : tie.Need-enum-known-next-2 Inv-loop μ-loop
 enum-known-next-2 c = search needs
 
 same-length : tie.Need-same-length Inv-loop μ-loop
-same-length c = search needs
+same-length c = let e = day (c .before .before .before .before .before) in
+    omega (arith, e .day .kept .1 .1 .1 .1 .1 .1 .0, head (date e) .loop .inv .1)
 
 same-length-2 : tie.Need-same-length-2 Inv-loop μ-loop
-same-length-2 c = search needs
+same-length-2 c = let e = day (c .before .before .before .before .before) in
+    omega (arith, e .day .kept .1 .1 .1 .1 .1 .1 .1 .0, head (date e) .loop .inv .2)
 
 same-length-3 : tie.Need-same-length-3 Inv-loop μ-loop
-same-length-3 c = omega (arith, head (date (day (c .before .before .before .before .before))) .loop .inv .3 .long)
+same-length-3 c = omega (arith, head (date (day (c .before .before .before .before .before))) .loop .inv .4 .long)
 
 -- the day is one of the run's
 more : (at : tie.After-day-at Inv-loop μ-loop) → head at .loop .k < dayCount (start (head at) .args .numbers .now)
@@ -76,35 +112,38 @@ returns : tie.Need-returns Inv-loop μ-loop
 returns c = let told = c .before in
     let tell = told .before .before .before .before in
     let at = date (day tell) in
-    told-last (start (head at) .args .numbers .now) _ _ _ _ _ _ _ _ _ (start (head at) .pre .coded) (head at .loop .inv .3)
-    (dayIn (at .day-at .result)) (at .day-at .ensures) (more at) _ _ _ _ _ (day tell .one-day .ensures .verdict) (tell .tell .ensures) (told .next2 .given .1)
+    told-last (start (head at) .args .numbers .now) _ _ _ _ _ _ _ _ _ _ (start (head at) .pre .coded) (head at .loop .inv .4)
+    (dayIn (at .day-at .result)) (at .day-at .ensures) (more at) _ _ _ _ _ _ _ (day tell .day .ensures) (tell .tell .ensures) (told .next2 .given .1)
 
 add-done : tie.Need-add-done Inv-loop μ-loop
 add-done c = let at = date (day (c .before .before .before .before .before .before)) in
-    omega (arith, head at .loop .inv .3 .counted, at .before .loop-test .taken, start (head at) .pre .coded .few)
+    omega (arith, head at .loop .inv .4 .counted, at .before .loop-test .taken, start (head at) .pre .coded .few)
 
 add-k : tie.Need-add-k Inv-loop μ-loop
 add-k c = let at = date (day (c .before .before .before .before .before .before)) in omega (arith, at .before .loop-test .taken, start (head at) .pre .coded .few)
 
 loop-less : tie.Need-loop-less Inv-loop μ-loop
-loop-less c = search needs
+loop-less c = omega (arith, date (day (c .before .before .before .before .before .before)) .before .loop-test .taken)
 
 loop-again : tie.Need-loop-again Inv-loop μ-loop
-unfolding cells
 loop-again c = let told = c .before .before in
     let tell = told .before .before .before .before in
-    let e = day tell .one-day .ensures in
-    let at = date (day tell) in (
+    let kept = day tell .day .kept .1 .1 .1 .1 .1 .1 in
+    let at = date (day tell) in
+    let inv = head at .loop .inv in
+    let new = day tell .day .last .1 .1 .1 .1 .1 .1 .1 .1 in
+    let l = left _ _ _ _ _ _ (new .0) (new .1 .0) (new .1 .1 .0) (new .1 .1 .1 .0) (new .1 .1 .1 .1 .0) (inv .3) (kept .1 .1 .0) (kept .1 .1 .1 .0) (kept .1 .1 .1 .1 .0) (kept .1 .1 .1 .1 .1 .0) (kept .1 .1 .1 .1 .1 .1 .0) in (
       omega (arith, at .before .loop-test .taken),
-      omega (arith, head at .loop .inv .1, day tell .one-day .kept),
-      omega (arith, head at .loop .inv .2, day tell .one-day .kept),
-      told-more (start (head at) .args .numbers .now) _ _ _ _ _ _ _ _ _ (start (head at) .pre .coded) (head at .loop .inv .3)
-          (dayIn (at .day-at .result)) (at .day-at .ensures) (more at) _ _ _ _ _ _ (start (head at) .pre .cells) (e .verdict) (e .totals) (e .state) (tell .tell .ensures) (told .next .given .1),
+      omega (arith, inv .1, kept .0),
+      omega (arith, inv .2, kept .1 .0),
+      l .0,
+      told-more (start (head at) .args .numbers .now) _ _ _ _ _ _ _ _ _ _ (start (head at) .pre .coded) (inv .4)
+          (dayIn (at .day-at .result)) (at .day-at .ensures) (more at) _ _ _ _ _ _ _ _ (l .1) (day tell .day .ensures) (tell .tell .ensures) (told .next .given .1),
     )
 
 ended-requires : tie.Need-ended-requires Inv-loop μ-loop
 ended-requires c κs = let last = c .before .before in
-    let u = last .loop .inv .3 in
+    let u = last .loop .inv .4 in
     let p = start last .pre in
     omega (arith, u .placed, u .long, p .room, p .coded .few, last .loop .inv .0)
 
@@ -122,7 +161,7 @@ returns-2 c = let ended = c .before .before in
     let last = ended .before .before .before in
     let ns = start last .args .numbers .now in
     let count = day-count ns _ (start last .pre .start) in
-    all-told ns _ _ _ _ _ _ _ _ _ (start last .pre .coded) (last .loop .inv .3) _ _
+    all-told ns _ _ _ _ _ _ _ _ _ _ (start last .pre .coded) (last .loop .inv .4) _ _
     (omega (arith, count, ended .before .before .loop-test .left)) (omega (arith, count, last .loop .inv .0)) (ended .ended .ensures)
 
 pub days-spec : {M : Type 1} → statement M
@@ -134,7 +173,17 @@ days-spec =
     sub-count
     loop-holds
     day-at-requires
-    one-day-requires
+    array-borrow-prefix-intercepted
+    slice-aggregate-day
+    array-borrow-prefix-outflow
+    slice-aggregate-day-2
+    array-borrow-prefix-evapotranspired
+    slice-aggregate-day-3
+    array-borrow-prefix-recharged
+    slice-aggregate-day-4
+    array-borrow-prefix-rejected
+    slice-aggregate-day-5
+    day-requires
     tell-requires
     enum-known-next
     enum-known-next-2

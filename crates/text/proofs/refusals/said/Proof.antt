@@ -1,9 +1,16 @@
 -- `refusals::said` meets its contract: each case has the paper's number and place.
+use mathlib.Core.Path.{_≡_, sym, ap}
 use borrow.Author.Needs.{needs}
 use Rattle.text.proofs.refusals.said.Statement.{statement}
 use Rattle.text.proofs.refusals.said.Tie as tie
 use Rattle.paper.specs.Refusals.{numberOf, placeOf}
+use Rattle.records.specs.Calls.{verdictAs}
+use Rattle.records.specs.declared.answers.Outcome.{Outcome}
 use Rattle.text.specs.Refusals.{saidOf}
+
+-- what is printed of an outcome is that of the case that it was found to be
+say : {o found : Outcome} → o ≡ found → saidOf (verdictAs found) ≡ saidOf (verdictAs o)
+say e = ap (λ (o : Outcome). saidOf (verdictAs o)) (sym e)
 
 enum-told : tie.Need-enum-told
 enum-told c = search needs
@@ -40,47 +47,47 @@ enum-known-outcome-5 c = search needs
 
 returns : tie.Need-returns
 unfolding saidOf numberOf placeOf
-returns c = cc
+returns c = say (c .enum-told .given .1)
 
 returns-2 : tie.Need-returns-2
 unfolding saidOf numberOf placeOf
-returns-2 c = cc
+returns-2 c = say (c .enum-told2 .given .1)
 
 returns-3 : tie.Need-returns-3
 unfolding saidOf numberOf placeOf
-returns-3 c = cc
+returns-3 c = say (c .enum-told3 .given .1)
 
 returns-4 : tie.Need-returns-4
 unfolding saidOf numberOf placeOf
-returns-4 c = cc
+returns-4 c = say (c .before .outcome .given .1)
 
 returns-5 : tie.Need-returns-5
 unfolding saidOf numberOf placeOf
-returns-5 c = cc
+returns-5 c = say (c .before .outcome2 .given .1)
 
 returns-6 : tie.Need-returns-6
 unfolding saidOf numberOf placeOf
-returns-6 c = cc
+returns-6 c = say (c .before .outcome3 .given .1)
 
 returns-7 : tie.Need-returns-7
 unfolding saidOf numberOf placeOf
-returns-7 c = cc
+returns-7 c = say (c .enum-told4 .given .1)
 
 returns-8 : tie.Need-returns-8
 unfolding saidOf numberOf placeOf
-returns-8 c = cc
+returns-8 c = say (c .enum-told5 .given .1)
 
 returns-9 : tie.Need-returns-9
 unfolding saidOf numberOf placeOf
-returns-9 c = cc
+returns-9 c = say (c .enum-told6 .given .1)
 
 returns-10 : tie.Need-returns-10
 unfolding saidOf numberOf placeOf
-returns-10 c = cc
+returns-10 c = say (c .before .outcome4 .given .1)
 
 returns-11 : tie.Need-returns-11
 unfolding saidOf numberOf placeOf
-returns-11 c = cc
+returns-11 c = say (c .before .outcome5 .given .1)
 
 pub said-spec : {M : Type 1} → statement M
 said-spec =

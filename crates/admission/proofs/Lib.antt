@@ -1,0 +1,3 @@
+pub mod DayTestLaws
+pub mod StoreLaws
+pub mod TestLaws
