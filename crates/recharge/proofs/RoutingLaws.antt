@@ -270,7 +270,7 @@ module _ {n : ℕ} {slots ways order codes owned lent : List ℕ} {t : ℕ} {wl 
               turn =
                   rw whose
                   (turn-inside n (nextIn ways) (passing codes slots ways) own (g .ordered .order) (s .turn) h out passed-on j leads l
-                  (omega (arith, g .sized, g .pointing .most)));
+                  (g .sized));
             }
 
   pub routing-ends : n ≤ t → Routed n slots ways codes owned wl ol
@@ -278,6 +278,6 @@ module _ {n : ℕ} {slots ways order codes owned lent : List ℕ} {t : ℕ} {wl 
       let last : t ≡ n = omega (arith, s .within) in
       let end : Turn n (nextIn ways) (passing codes slots ways) own (g .ordered .order) owned n wl ol = rw last at (s .turn) in
       record {
-        water-of = last-water n (nextIn ways) (passing codes slots ways) own (g .ordered .order) end (omega (arith, g .sized, g .pointing .most));
+        water-of = last-water n (nextIn ways) (passing codes slots ways) own (g .ordered .order) end (g .sized);
         outflow-of = last-outflow n (nextIn ways) (passing codes slots ways) own (g .ordered .order) end;
       }

@@ -52,12 +52,6 @@ module _ (t : Today) (covers slots ways order available soil snow intercepted ou
   abbrev n : ℕ
   n = length available
 
-  abbrev blank : List ℕ
-  blank = replicate {A = ℕ} 4096 0
-
-  blank-sized : length blank ≡ 4096
-  blank-sized = length-replicate {A = ℕ} 4096 0
-
   -- the cell of the paper at i, and its slot
   abbrev cell : ℕ → Cell
   cell i = cellIn covers slots available ways i
@@ -65,8 +59,12 @@ module _ (t : Today) (covers slots ways order available soil snow intercepted ou
   slot-inside : (i : ℕ) → i < n → getD slots i 0 < 256
   slot-inside i h = omega (arith, ready .cells .slotted i h, count-limit covers (ready .cells .table))
 
+  pub settled-each : (gross : ℕ) (figure : ℕ → Figures) (gone? : ℕ → Bool) (totals : Totals) (soil' snow' int et re rj : List ℕ)
+      → Settled n gross figure gone? totals soil' snow' int et re rj → length re ≡ length recharged
+  settled-each gross figure gone? totals soil' snow' int et re rj s = ap length (s .recharges) ∙ made-length n _ ∙ sym (ready .recharges)
+
   module _ (held rain snowfall codes : List ℕ) (shared : SharedBySlot t covers held rain snowfall codes) where
-    pub own-ask : OwnReady (t .meltable) slots rain snow blank
+    pub own-ask : OwnReady (t .meltable) slots rain snow recharged
     own-ask =
         record {
           few = rw (ready .snows) (ready .cells .few);
@@ -76,10 +74,10 @@ module _ (t : Today) (covers slots ways order available soil snow intercepted ou
               rw (shared .rain-is .each (getD slots i 0) (getD available i 0) (getD ways i 4097) (ready .cells .slotted i k))
               (le-trans (wet-most (cell i) t) (ready .gross));
           melts = ready .melts;
-          sized = blank-sized;
+          sized = omega (arith, ready .snows, ready .recharges);
         }
 
-    module _ (own : List ℕ) (owned : own ≡ madeOver (length snow) (ownAt (t .meltable) slots rain snowfall snow) blank) where
+    module _ (own : List ℕ) (owned : own ≡ madeOver (length snow) (ownAt (t .meltable) slots rain snowfall snow) recharged) where
       shared-at : (i : ℕ) → i < n → getD codes (getD slots i 0) 0 ≡ codeOf t (cell i)
       shared-at i h = shared .codes-are .each (getD slots i 0) (getD available i 0) (getD ways i 4097) (ready .cells .slotted i h)
 
@@ -96,7 +94,7 @@ module _ (t : Today) (covers slots ways order available soil snow intercepted ou
           rw (
             owned,
             ready .snows,
-            over-at n (ownAt (t .meltable) slots rain snowfall snow) blank 0 i h,
+            over-at n (ownAt (t .meltable) slots rain snowfall snow) recharged 0 i h,
             shared .rain-is .each (getD slots i 0) (getD available i 0) (getD ways i 4097) k,
             shared .snowfall-is .each (getD slots i 0) (getD available i 0) (getD ways i 4097) k,
           )
@@ -107,6 +105,9 @@ module _ (t : Today) (covers slots ways order available soil snow intercepted ou
       own-limit i h =
           omega (arith, owns i h, own-most (cellIn covers slots available ways i) t (getD snow i 0), ready .gross, ready .melts)
 
+      own-sized : length own ≡ n
+      own-sized = ap length owned ∙ over-length (length snow) _ recharged (omega (arith, ready .snows, ready .recharges)) ∙ ready .recharges
+
       pub route-ask : Routable n slots ways order codes own outflow
       route-ask =
           record {
@@ -116,7 +117,7 @@ module _ (t : Today) (covers slots ways order available soil snow intercepted ou
             coded =
                 λ i h. rw (shared-at i h)
                 (coded (cell i) t (unfold cellFrom in (slot-number covers (ready .cells .table) (getD slots i 0) (ready .cells .slotted i h) (t .condition))));
-            sized = ap length owned ∙ over-length (length snow) _ blank (rw (ready .snows) (le-trans (ready .cells .few) (le-of-eq (sym blank-sized)))) ∙ blank-sized;
+            sized = le-of-eq (sym own-sized);
             one-each = ready .outflows;
             little = omega (arith, sum-most n (λ i. getD own i 0) 450000 own-limit, mul-le-mul-right 450000 (ready .cells .few));
           }
@@ -139,8 +140,11 @@ module _ (t : Today) (covers slots ways order available soil snow intercepted ou
             ∙ ap (passedOf (cellIn covers slots available ways i) t)
             (sym (ap (λ (l : List ℕ). getD l i 0) (routed .water-of) ∙ over-at n _ own 0 i h))
 
+        reached-sized : length reached ≡ n
+        reached-sized = ap length (routed .water-of) ∙ over-length n _ own (le-of-eq (sym own-sized)) ∙ own-sized
+
         pub settle-ask : (f roots largest : List ℕ) → f ≡ table → Rooted covers roots → Largest covers largest
-            → Ready t f covers slots ways held snowfall codes roots largest reached available soil snow intercepted passedOn evapotranspired recharged rejected
+            → Ready t f covers slots ways held snowfall codes roots largest available soil snow intercepted passedOn evapotranspired reached rejected
         settle-ask f roots largest e rooted drains =
             record {
               gross = ready .gross;
@@ -155,7 +159,7 @@ module _ (t : Today) (covers slots ways order available soil snow intercepted ou
               interceptions = ready .interceptions;
               outflows = ap length (routed .outflow-of) ∙ made-length n _;
               evapotranspirations = ready .evapotranspirations;
-              recharges = ready .recharges;
+              recharges = reached-sized;
               rejections = ready .rejections;
               held = ready .held;
               lying = ready .lying;

@@ -100,14 +100,15 @@ module _
 -- each cell of a grid that is ready, with its stores as they were lent
 module _
     {t : Today}
-    {f covers slots ways heldBy fallBy codes roots largest reached water soil snow intercepted outflow evapotranspired recharged rejected : List ℕ}
-    (ready : Ready t f covers slots ways heldBy fallBy codes roots largest reached water soil snow intercepted outflow evapotranspired recharged rejected)
+    {f covers slots ways heldBy fallBy codes roots largest water soil snow intercepted outflow evapotranspired recharged rejected : List ℕ}
+    (ready : Ready t f covers slots ways heldBy fallBy codes roots largest water soil snow intercepted outflow evapotranspired recharged rejected)
     (i : ℕ)
     (h : i < length water)
   where
-    pub ready-lent : (soil' snow' : List ℕ) → i < length soil' → i < length snow' → getD soil' i 0 ≡ getD soil i 0 → getD snow' i 0 ≡ getD snow i 0
+    pub ready-lent : (soil' snow' reached : List ℕ) → i < length soil' → i < length snow' → i < length reached
+        → getD soil' i 0 ≡ getD soil i 0 → getD snow' i 0 ≡ getD snow i 0 → getD reached i 0 ≡ getD recharged i 0
         → LentAt t f covers slots ways heldBy fallBy codes roots largest reached water outflow soil' snow' i
-    ready-lent soil' snow' ls ln es en =
+    ready-lent soil' snow' reached ls ln lr es en er =
         record {
           gross = ready .gross;
           potential = ready .potential;
@@ -116,21 +117,22 @@ module _
           pointed = ready .pointed;
           by-slot = ready .by-slot;
           inside = h;
+          reaches = lr;
           outflows = rw (ready .outflows) h;
           soils = ls;
           snows = ln;
           held = rw es (ready .held i h);
           lying = rw en (ready .lying i h);
-          wet = ready .wet i h;
-          passed = ready .passed i h;
+          wet = rw er (ready .wet i h);
+          passed = rw er (ready .passed i h);
         }
 
-    pub ready-same : (soil' snow' : List ℕ) → getD soil' i 0 ≡ getD soil i 0 → getD snow' i 0 ≡ getD snow i 0
-        → figureIn t covers slots water ways reached soil' snow' i ≡ figureIn t covers slots water ways reached soil snow i
+    pub ready-same : (soil' snow' reached : List ℕ) → getD soil' i 0 ≡ getD soil i 0 → getD snow' i 0 ≡ getD snow i 0 → getD reached i 0 ≡ getD recharged i 0
+        → figureIn t covers slots water ways reached soil' snow' i ≡ figureIn t covers slots water ways recharged soil snow i
     unfolding figureIn
-    ready-same soil' snow' es en = rw (es, en)
+    ready-same soil' snow' reached es en er = rw (es, en, er)
 
-    pub ready-fits : Fit32 (figureIn t covers slots water ways reached soil snow i)
+    pub ready-fits : Fit32 (figureIn t covers slots water ways recharged soil snow i)
     unfolding figureIn cellFrom
     ready-fits =
         figures-fit (cellIn covers slots water ways i) t _ _ _

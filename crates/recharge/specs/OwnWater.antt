@@ -25,4 +25,4 @@ pub record OwnReady (meltable : ℕ) (slots rain snow own : List ℕ) : Type 0 w
   pub slotted : (i : ℕ) → i < length snow → getD slots i 0 < 256
   pub rains : (i : ℕ) → i < length snow → getD rain (getD slots i 0) 0 ≤ mostGross
   pub melts : meltable ≤ meltLimit
-  pub sized : length own ≡ 4096
+  pub sized : length snow ≤ length own

@@ -34,7 +34,7 @@ pub record Routable (n : ℕ) (slots ways order codes owned lent : List ℕ) : T
   pub pointing : WaysIn n ways
   pub ordered : OrderedBy n (nextIn ways) order
   pub coded : (i : ℕ) → i < n → Coded (getD codes (getD slots i 0) 0)
-  pub sized : length owned ≡ 4096
+  pub sized : n ≤ length owned
   pub one-each : length lent ≡ n
   pub little : sum n (λ i. getD owned i 0) < 2000000000
 

@@ -101,6 +101,7 @@ pub record LentAt
   pub pointed : length ways ≡ 4096
   pub by-slot : BySlots t covers heldBy fallBy codes roots largest
   pub inside : i < length water
+  pub reaches : i < length reached
   pub outflows : i < length outflow
   pub soils : i < length soil
   pub snows : i < length snow
@@ -109,10 +110,10 @@ pub record LentAt
   pub wet : getD reached i 0 < waterLimit
   pub passed : getD outflow i 0 ≡ passedOf (cellIn covers slots water ways i) t (getD reached i 0)
 
--- one entry a cell in each lent slice, stores within their limits, and the outflow for the water that reached each cell
+-- one entry a cell in each lent slice, stores within their limits, the water that reached each cell in `recharged`, and the outflow for it
 pub record Ready
     (t : Today)
-    (f covers slots ways heldBy fallBy codes roots largest reached water soil snow intercepted outflow evapotranspired recharged rejected : List ℕ)
+    (f covers slots ways heldBy fallBy codes roots largest water soil snow intercepted outflow evapotranspired recharged rejected : List ℕ)
     : Type 0 where
   pub gross : t .gross ≤ mostGross
   pub potential : t .potential ≤ mostPotential
@@ -131,8 +132,8 @@ pub record Ready
   pub lying : (i : ℕ) → i < length water → getD snow i 0 ≤ mostSnowOf (cellIn covers slots water ways i)
   pub joined : (i : ℕ) → i < length water → cellIn covers slots water ways i .open? ≡ false
       → storeOf (cellIn covers slots water ways i) t (getD snow i 0) ≤ mostSnow
-  pub wet : (i : ℕ) → i < length water → getD reached i 0 < waterLimit
-  pub passed : (i : ℕ) → i < length water → getD outflow i 0 ≡ passedOf (cellIn covers slots water ways i) t (getD reached i 0)
+  pub wet : (i : ℕ) → i < length water → getD recharged i 0 < waterLimit
+  pub passed : (i : ℕ) → i < length water → getD outflow i 0 ≡ passedOf (cellIn covers slots water ways i) t (getD recharged i 0)
 
 -- the stores and results written from each cell's figures, and the totals summed from them
 pub record Settled

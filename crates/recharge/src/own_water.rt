@@ -20,14 +20,14 @@ fn own_at(rain: u32, snowfall: u32, snow: u32, meltable: Depth) -> u32
     units as u32
 }
 
-// Writes the water of its own of each cell that the snow slice has, and leaves the rest of the array.
+// Writes the water of its own of each cell that the snow slice has.
 pub(crate) fn own_water(
     meltable: Depth,
     slots: &[u32; 4096],
     rain: &[u32; 256],
     snowfall: &[u32; 256],
     snow: &[u32],
-    own: &mut [u32; 4096],
+    own: &mut [u32],
 )
     requires { ⌜ OwnReady (meltable .0) (now slots) (now rain) (now snow) (now own) ⌝ }
     ensures { λ r. ⌜ now (own .exit) ≡ madeOver (length (now (snow .entry))) (ownAt (meltable .0) (now (slots .entry)) (now (rain .entry)) (now (snowfall .entry)) (now (snow .entry))) (now (own .entry)) ⌝ }

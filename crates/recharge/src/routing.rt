@@ -30,7 +30,7 @@ pub(crate) fn route(
     ways: &[u32; 4096],
     order: &[u32; 4096],
     codes: &[u32; 256],
-    water: &mut [u32; 4096],
+    water: &mut [u32],
     outflow: &mut [u32],
 )
     requires { ⌜ Routable n (now slots) (now ways) (now order) (now codes) (now water) (now outflow) ⌝ }

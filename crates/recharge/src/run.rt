@@ -42,10 +42,10 @@ pub(crate) fn run(
         &mut snowfall,
         &mut codes,
     );
-    let mut reached = [0u32; 4096];
     let meltable = today.meltable;
-    own_water(meltable, slots, &rain, &snowfall, snow, &mut reached);
-    route(n, slots, ways, order, &codes, &mut reached, outflow);
+    // The water of each cell stands where its recharge will be written, so that a call needs no array for it.
+    own_water(meltable, slots, &rain, &snowfall, snow, recharged);
+    route(n, slots, ways, order, &codes, recharged, outflow);
     let mut roots = [0u32; 256];
     let mut largest = [0u32; 256];
     root_depths(covers, &mut roots);
@@ -62,7 +62,6 @@ pub(crate) fn run(
         &codes,
         &roots,
         &largest,
-        &reached,
         water,
         soil,
         snow,

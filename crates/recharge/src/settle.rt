@@ -59,7 +59,7 @@ fn figures_at(
     codes: &[u32; 256],
     roots: &[u32; 256],
     largest: &[u32; 256],
-    reached: &[u32; 4096],
+    reached: &[u32],
     water: &[u32],
     outflow: &[u32],
     soil: &[u32],
@@ -90,6 +90,7 @@ fn figures_at(
     )
 }
 
+// Until a cell's recharge is written, its place in `recharged` holds the water that reached it.
 pub(crate) fn settle(
     today: Today,
     f: &[u32; 2049],
@@ -101,7 +102,6 @@ pub(crate) fn settle(
     codes: &[u32; 256],
     roots: &[u32; 256],
     largest: &[u32; 256],
-    reached: &[u32; 4096],
     water: &[u32],
     soil: &mut [u32],
     snow: &mut [u32],
@@ -111,8 +111,8 @@ pub(crate) fn settle(
     recharged: &mut [u32],
     rejected: &mut [u32],
 ) -> Totals
-    requires { ⌜ Ready (todayOf today) (now f) (now covers) (now slots) (now ways) (now held) (now snowfall) (now codes) (now roots) (now largest) (now reached) (now water) (now soil) (now snow) (now intercepted) (now outflow) (now evapotranspired) (now recharged) (now rejected) ⌝ }
-    ensures { λ r. ⌜ Settled (length (now (water .entry))) (today .gross .0) (figureIn (todayOf today) (now (covers .entry)) (now (slots .entry)) (now (water .entry)) (now (ways .entry)) (now (reached .entry)) (now (soil .entry)) (now (snow .entry))) (goneIn (now (covers .entry)) (now (slots .entry)) (now (ways .entry))) r (now (soil .exit)) (now (snow .exit)) (now (intercepted .exit)) (now (evapotranspired .exit)) (now (recharged .exit)) (now (rejected .exit)) ⌝ }
+    requires { ⌜ Ready (todayOf today) (now f) (now covers) (now slots) (now ways) (now held) (now snowfall) (now codes) (now roots) (now largest) (now water) (now soil) (now snow) (now intercepted) (now outflow) (now evapotranspired) (now recharged) (now rejected) ⌝ }
+    ensures { λ r. ⌜ Settled (length (now (water .entry))) (today .gross .0) (figureIn (todayOf today) (now (covers .entry)) (now (slots .entry)) (now (water .entry)) (now (ways .entry)) (now (recharged .entry)) (now (soil .entry)) (now (snow .entry))) (goneIn (now (covers .entry)) (now (slots .entry)) (now (ways .entry))) r (now (soil .exit)) (now (snow .exit)) (now (intercepted .exit)) (now (evapotranspired .exit)) (now (recharged .exit)) (now (rejected .exit)) ⌝ }
 {
     let gross = today.gross;
     let mut totals = none_yet();
@@ -129,7 +129,7 @@ pub(crate) fn settle(
             codes,
             roots,
             largest,
-            reached,
+            recharged,
             water,
             outflow,
             soil,

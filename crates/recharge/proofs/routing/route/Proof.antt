@@ -7,7 +7,7 @@ use mathlib.Core.Logic.{⊎-elim}
 use Prim.Native.Nat.{ℕ, _+_, _<_, _-_}
 use native.Mathlib.Omega.{arith}
 use borrow.Author.Needs.{needs}
-use lib.ListN.{getD, set}
+use lib.ListN.{length, getD, set}
 use Rattle.survey.specs.Routes.{nextIn}
 use Rattle.survey.proofs.QueueLaws.{way-next}
 use Rattle.recharge.specs.Routing.{passing}
@@ -25,7 +25,7 @@ abbrev looping : tie.After-place Inv-loop μ-loop → tie.At-loop Inv-loop μ-lo
 looping w = w .before .before .before
 
 abbrev starting : tie.After-place Inv-loop μ-loop → tie.Start Inv-loop μ-loop
-starting w = w .before .before .before .before .before
+starting w = w .before .before .before .before .before .before
 
 -- the cell whose turn it is
 below : (w : tie.After-place Inv-loop μ-loop) → w .place .result < starting w .args .n
@@ -33,6 +33,10 @@ below w = cell-inside (looping w .loop .inv) (w .before .before .loop-test .take
 
 in-array : (w : tie.After-place Inv-loop μ-loop) → w .place .result < 4096
 in-array w = omega (arith, below w, starting w .pre .pointing .most)
+
+-- the water's slice has it
+holding : (w : tie.After-place Inv-loop μ-loop) → w .place .result < length (looping w .loop .water)
+holding w = omega (arith, below w, starting w .pre .sized, looping w .loop .inv .turn .sized)
 
 abbrev came : tie.After-passed Inv-loop μ-loop → tie.After-place Inv-loop μ-loop
 came w = w .before .before .before .before .before .before
@@ -58,14 +62,20 @@ way w =
     let p = came (w .before) in
     sym (way-next (starting p .pre .pointing) (p .place .result) (in-array p)) ∙ sym (w .place3 .ensures)
 
+-- and the cell that it points to
+room : (c : tie.Then1 Inv-loop μ-loop) → c .before .place3 .result < length (looping (came (c .before .before)) .loop .water)
+room c =
+    let w = came (c .before .before) in
+    omega (arith, c .if1 .taken, starting w .pre .sized, looping w .loop .inv .turn .sized)
+
 loop-holds : tie.Need-loop-holds Inv-loop μ-loop
-loop-holds c = routing-starts (c .before .pre)
+loop-holds c = routing-starts (c .before .before .pre)
 
 mul-place : tie.Need-mul-place Inv-loop μ-loop
 mul-place c = search needs
 
 element-copy-out-place : tie.Need-element-copy-out-place Inv-loop μ-loop
-element-copy-out-place c = let s = c .before .before .before in omega (arith, s .pre .pointing .most)
+element-copy-out-place c = let s = c .before .before .before .before in omega (arith, s .pre .pointing .most)
 
 place-requires : tie.Need-place-requires Inv-loop μ-loop
 place-requires c κs = search needs
@@ -94,8 +104,8 @@ element-copy-out-passed c = slot-inside c
 mul-passed-2 : tie.Need-mul-passed-2 Inv-loop μ-loop
 mul-passed-2 c = let h = in-array (c .before .before .before .before) in search needs
 
-element-copy-out-passed-2 : tie.Need-element-copy-out-passed-2 Inv-loop μ-loop
-element-copy-out-passed-2 c = in-array (c .before .before .before .before)
+slice-read-passed : tie.Need-slice-read-passed Inv-loop μ-loop
+slice-read-passed c = holding (c .before .before .before .before .before)
 
 passed-requires : tie.Need-passed-requires Inv-loop μ-loop
 passed-requires c κs = let w = c .before .before .before .before .before in (
@@ -115,8 +125,8 @@ place-requires-3 c κs = search needs
 mul-water : tie.Need-mul-water Inv-loop μ-loop
 mul-water c = let m = starting (came (c .before .before)) .pre .pointing .most in search needs
 
-element-copy-out-water : tie.Need-element-copy-out-water Inv-loop μ-loop
-element-copy-out-water c = let m = starting (came (c .before .before)) .pre .pointing .most in omega arith
+slice-read-water : tie.Need-slice-read-water Inv-loop μ-loop
+slice-read-water c = room (c .before)
 
 add-water : tie.Need-add-water Inv-loop μ-loop
 add-water c = let p = c .before .before in
@@ -129,8 +139,8 @@ add-water c = let p = c .before .before in
       );
     }
 
-element-write-water : tie.Need-element-write-water Inv-loop μ-loop
-element-write-water c = let m = starting (came (c .before .before .before)) .pre .pointing .most in omega arith
+slice-write-water : tie.Need-slice-write-water Inv-loop μ-loop
+slice-write-water c = room (c .before)
 
 add-t : tie.Need-add-t Inv-loop μ-loop
 add-t c = search needs
@@ -156,7 +166,10 @@ loop-again c = let p = c .before in
     (c .if1 .came)
 
 same-length : tie.Need-same-length Inv-loop μ-loop
-same-length c = c .before .loop .inv .turn .one-each ∙ sym (c .before .before .before .pre .one-each)
+same-length c = c .before .loop .inv .turn .sized
+
+same-length-2 : tie.Need-same-length-2 Inv-loop μ-loop
+same-length-2 c = c .before .loop .inv .turn .one-each ∙ sym (c .before .before .before .before .pre .one-each)
 
 returns : tie.Need-returns Inv-loop μ-loop
 returns c = routing-ends (c .before .loop .inv) (c .loop-test .left)
@@ -179,17 +192,18 @@ route-spec =
     mul-passed
     element-copy-out-passed
     mul-passed-2
-    element-copy-out-passed-2
+    slice-read-passed
     passed-requires
     mul-outflow
     slice-write-outflow
     place-requires-3
     mul-water
-    element-copy-out-water
+    slice-read-water
     add-water
-    element-write-water
+    slice-write-water
     add-t
     loop-less
     loop-again
     same-length
+    same-length-2
     returns)

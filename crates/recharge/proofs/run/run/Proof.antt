@@ -1,5 +1,5 @@
 -- `run::run` meets its contract: each pass is handed what the one before it left.
-use Rattle.recharge.proofs.RunLaws.{own-ask, route-ask, settle-ask, one-each, ran}
+use Rattle.recharge.proofs.RunLaws.{own-ask, route-ask, settle-ask, one-each, settled-each, ran}
 use Rattle.survey.proofs.GroundLaws.{rooted, largest-by-slot}
 use borrow.Author.Needs.{needs}
 use Rattle.recharge.proofs.run.run.Statement.{statement}
@@ -7,7 +7,7 @@ use Rattle.recharge.proofs.run.run.Tie as tie
 
 -- the passes' places, from the last back to the first
 abbrev owned : tie.After-route → tie.After-own-water
-owned c = c .before .before .before .before
+owned c = c .before .before .before .before .before .before
 
 abbrev covered : tie.After-own-water → tie.After-cover-days
 covered c = c .before .before .before .before .before .before
@@ -25,7 +25,7 @@ own-water-requires c κs =
 
 route-requires : tie.Need-route-requires
 route-requires c κs =
-    let o = c .before .before .before in
+    let o = c .before .before .before .before .before in
     let d = covered o in
     route-ask _ _ _ _ _ _ _ _ _ _ _ _ _ (start d .pre) _ _ _ _ (d .cover-days .ensures) _ (o .own-water .ensures)
 
@@ -40,8 +40,8 @@ retention-requires c κs = search needs
 
 settle-requires : tie.Need-settle-requires
 settle-requires c κs =
-    let at-retention = c .before .before .before .before .before .before .before .before .before .before .before .before .before .before in
-    let r = at-retention .before .before .before .before .before .before .before in
+    let at-retention = c .before .before .before .before .before .before .before .before .before .before .before .before .before in
+    let r = at-retention .before .before .before .before .before .before .before .before .before in
     let o = owned r in
     let d = covered o in
     settle-ask _ _ _ _ _ _ _ _ _ _ _ _ _ (start d .pre) _ _ _ _ (d .cover-days .ensures) _ (o .own-water .ensures)
@@ -60,7 +60,7 @@ same-length-3 c = search needs
 
 same-length-4 : tie.Need-same-length-4
 same-length-4 c =
-    let r = c .before .before .before .before .before .before .before .before .before .before .before .before .before .before .before .before .before .before .before .before .before .before .before .before .before .before .before .before .before .before .before .before .before .before in
+    let r = c .before .before .before .before .before .before .before .before .before .before .before .before .before .before .before .before .before .before .before .before .before .before .before .before .before .before .before .before .before .before .before .before .before .before .before in
     let o = owned r in
     let d = covered o in
     one-each _ _ _ _ _ _ _ _ _ _ _ _ _ (start d .pre) _ _ _ _ (d .cover-days .ensures) _ (o .own-water .ensures) _ _ (r .route .ensures)
@@ -69,7 +69,10 @@ same-length-5 : tie.Need-same-length-5
 same-length-5 c = search needs
 
 same-length-6 : tie.Need-same-length-6
-same-length-6 c = search needs
+same-length-6 c =
+    let at-settle = c .before .before .before .before .before .before .before .before .before .before .before .before in
+    let r = at-settle .before .before .before .before .before .before .before .before .before .before .before .before .before .before .before .before .before .before .before .before .before .before .before in
+    settled-each _ _ _ _ _ _ _ _ _ _ _ _ _ (start (covered (owned r)) .pre) _ _ _ _ _ _ _ _ _ _ (at-settle .settle .ensures)
 
 same-length-7 : tie.Need-same-length-7
 same-length-7 c = search needs
@@ -77,7 +80,7 @@ same-length-7 c = search needs
 returns : tie.Need-returns
 returns c =
     let at-settle = c .before .before .before .before .before .before .before .before .before .before .before .before in
-    let r = at-settle .before .before .before .before .before .before .before .before .before .before .before .before .before .before .before .before .before .before .before .before .before .before in
+    let r = at-settle .before .before .before .before .before .before .before .before .before .before .before .before .before .before .before .before .before .before .before .before .before .before .before in
     let o = owned r in
     let d = covered o in
     ran _ _ _ _ _ _ _ _ _ _ _ _ _ (start d .pre) _ _ _ _ (d .cover-days .ensures) _ (o .own-water .ensures)

@@ -9,11 +9,14 @@ use borrow.Author.Needs.{needs}
 use Rattle.recharge.proofs.settle.figures_at.Statement.{statement}
 use Rattle.recharge.proofs.settle.figures_at.Tie as tie
 
+abbrev start : tie.After-plot-at → tie.Start
+start c = c .before .before .before .before .before .before .before .before .before .before
+
 -- the plot that was read is the cell's
 standing : (c : tie.After-plot-at)
-    → let a = c .before .before .before .before .before .before .before .before .before .args in
+    → let a = start c .args in
     Stands (cellIn (a .covers .now) (a .slots .now) (a .water .now) (a .ways .now) (a .i)) (todayOf (a .today)) (c .plot-at .result)
-standing c = lent-stands (c .before .before .before .before .before .before .before .before .before .pre) _ _ (c .before .before .place .ensures) (c .plot-at .ensures)
+standing c = lent-stands (start c .pre) _ _ (c .before .before .place .ensures) (c .plot-at .ensures)
 
 mul-place : tie.Need-mul-place
 mul-place c = search needs
@@ -31,7 +34,7 @@ shared-slice-read-plot-at : tie.Need-shared-slice-read-plot-at
 shared-slice-read-plot-at c = search needs
 
 plot-at-requires : tie.Need-plot-at-requires
-plot-at-requires c κs = lent-plot (c .before .before .before .before .before .before .before .before .pre) _ (c .before .place .ensures)
+plot-at-requires c κs = lent-plot (c .before .before .before .before .before .before .before .before .before .pre) _ (c .before .place .ensures)
 
 mul-cell-day : tie.Need-mul-cell-day
 mul-cell-day c = search needs
@@ -58,19 +61,19 @@ depth-requires-2 : tie.Need-depth-requires-2
 depth-requires-2 c κs = search needs
 
 mul-depth-3 : tie.Need-mul-depth-3
-mul-depth-3 c = search needs
+mul-depth-3 c = let p = start (c .before .before .before .before .before) .pre in omega (arith, p .cells .few, p .inside)
 
-element-copy-out-depth : tie.Need-element-copy-out-depth
-element-copy-out-depth c = search needs
+shared-slice-read-depth-3 : tie.Need-shared-slice-read-depth-3
+shared-slice-read-depth-3 c = search needs
 
 depth-requires-3 : tie.Need-depth-requires-3
 depth-requires-3 c κs = search needs
 
 mul-depth-4 : tie.Need-mul-depth-4
-mul-depth-4 c = omega (arith, c .before .before .before .before .before .before .before .before .before .before .before .before .before .before .before .before .pre .cells .few, c .before .before .before .before .before .before .before .before .before .before .before .before .before .before .before .before .pre .inside)
+mul-depth-4 c = let p = start (c .before .before .before .before .before .before .before) .pre in omega (arith, p .cells .few, p .inside)
 
-shared-slice-read-depth-3 : tie.Need-shared-slice-read-depth-3
-shared-slice-read-depth-3 c = search needs
+shared-slice-read-depth-4 : tie.Need-shared-slice-read-depth-4
+shared-slice-read-depth-4 c = search needs
 
 depth-requires-4 : tie.Need-depth-requires-4
 depth-requires-4 c κs = search needs
@@ -78,12 +81,12 @@ depth-requires-4 c κs = search needs
 cell-day-requires : tie.Need-cell-day-requires
 cell-day-requires c κs =
     let at-plot = c .before .before .before .before .before .before .before .before .before in
-    lent-cell (at-plot .before .before .before .before .before .before .before .before .before .pre) _ _ _ _ (standing at-plot) (c .before .before .before .before .before .before .depth .ensures) (c .before .before .before .before .depth2 .ensures) (c .before .before .depth3 .ensures)
+    lent-cell (start at-plot .pre) _ _ _ _ (standing at-plot) (c .before .before .before .before .before .before .depth .ensures) (c .before .before .before .before .depth2 .ensures) (c .before .before .depth3 .ensures)
 
 returns : tie.Need-returns
 returns c =
     let at-plot = c .before .before .before .before .before .before .before .before .before .before in
-    let lent = at-plot .before .before .before .before .before .before .before .before .before .pre in (
+    let lent = start at-plot .pre in (
       lent-figures lent _ _ _ _ _ (c .before .before .before .before .before .before .before .depth .ensures) (c .before .before .before .before .before .depth2 .ensures) (c .before .before .before .depth3 .ensures) (c .before .depth4 .ensures)
           (c .cell-day .ensures .0 _ (standing at-plot)),
       lent-gone lent _ _ _ (standing at-plot) (c .cell-day .ensures .1),
@@ -108,10 +111,10 @@ figures-at-spec =
     shared-slice-read-depth-2
     depth-requires-2
     mul-depth-3
-    element-copy-out-depth
+    shared-slice-read-depth-3
     depth-requires-3
     mul-depth-4
-    shared-slice-read-depth-3
+    shared-slice-read-depth-4
     depth-requires-4
     cell-day-requires
     returns)

@@ -17,12 +17,12 @@ use Rattle.recharge.proofs.settle.settle.Statement.{statement}
 use Rattle.recharge.proofs.settle.settle.Tie as tie
 
 abbrev Inv-loop : tie.InvT-loop
-Inv-loop today f covers slots ways held snowfall codes roots largest reached water soil₀ snow₀ intercepted₀ outflow evapotranspired₀ recharged₀ rejected₀ gross totals₀ i₀ soil snow intercepted evapotranspired recharged rejected totals i =
-    Progress (length water) i (today .gross .0) (figureIn (todayOf today) covers slots water ways reached soil₀ snow₀) (goneIn covers slots ways) (totalsIn totals)
+Inv-loop today f covers slots ways held snowfall codes roots largest water soil₀ snow₀ intercepted₀ outflow evapotranspired₀ recharged₀ rejected₀ gross totals₀ i₀ soil snow intercepted evapotranspired recharged rejected totals i =
+    Progress (length water) i (today .gross .0) (figureIn (todayOf today) covers slots water ways recharged₀ soil₀ snow₀) (goneIn covers slots ways) (totalsIn totals)
     soil₀ snow₀ intercepted₀ evapotranspired₀ recharged₀ rejected₀ soil snow intercepted evapotranspired recharged rejected
 
 abbrev μ-loop : tie.MeasureT-loop
-μ-loop today f covers slots ways held snowfall codes roots largest reached water soil₀ snow₀ intercepted₀ outflow evapotranspired₀ recharged₀ rejected₀ gross totals₀ i₀ soil snow intercepted evapotranspired recharged rejected totals i =
+μ-loop today f covers slots ways held snowfall codes roots largest water soil₀ snow₀ intercepted₀ outflow evapotranspired₀ recharged₀ rejected₀ gross totals₀ i₀ soil snow intercepted evapotranspired recharged rejected totals i =
     length water - i
 
 -- a turn's places: the loop's head, and the cell's figures
@@ -30,7 +30,7 @@ abbrev start : tie.At-loop Inv-loop μ-loop → tie.Start Inv-loop μ-loop
 start c = c .before .before .before .before .before .before .before .before .before .before .before .before
 
 abbrev turn : tie.After-figures-at Inv-loop μ-loop → tie.In-loop Inv-loop μ-loop
-turn c = c .before .before .before
+turn c = c .before .before .before .before
 
 small : (c : tie.In-loop Inv-loop μ-loop) → c .before .loop .i < 4096
 small c = omega (arith, c .loop-test .taken, c .before .loop .inv .few)
@@ -40,11 +40,11 @@ figured : (c : tie.After-figures-at Inv-loop μ-loop)
     → let l = turn c .before in
     let a = start l .args in
     figuresOf (c .figures-at .result)
-    ≡ figureIn (todayOf (a .today)) (a .covers .now) (a .slots .now) (a .water .now) (a .ways .now) (a .reached .now) (a .soil .now) (a .snow .now) (l .loop .i)
+    ≡ figureIn (todayOf (a .today)) (a .covers .now) (a .slots .now) (a .water .now) (a .ways .now) (a .recharged .now) (a .soil .now) (a .snow .now) (l .loop .i)
 figured c =
     let l = turn c .before in
     let p = l .loop .inv in
-    c .figures-at .ensures .0 ∙ ready-same (start l .pre) (l .loop .i) (turn c .loop-test .taken) _ _ (still _ _ _ _ (p .soil)) (still _ _ _ _ (p .snow))
+    c .figures-at .ensures .0 ∙ ready-same (start l .pre) (l .loop .i) (turn c .loop-test .taken) _ _ _ (still _ _ _ _ (p .soil)) (still _ _ _ _ (p .snow)) (still _ _ _ _ (p .recharged))
 
 fits : (c : tie.After-figures-at Inv-loop μ-loop) → Fit32 (figuresOf (c .figures-at .result))
 fits c = let l = turn c .before in subst Fit32 (sym (figured c)) (ready-fits (start l .pre) (l .loop .i) (turn c .loop-test .taken))
@@ -67,11 +67,12 @@ loop-holds c =
 
 figures-at-requires : tie.Need-figures-at-requires Inv-loop μ-loop
 figures-at-requires c κs =
-    let t = c .before .before in
+    let t = c .before .before .before in
     let l = t .before in
     let p = l .loop .inv in
     let h = t .loop-test .taken in
-    ready-lent (start l .pre) (l .loop .i) h _ _ (omega (arith, p .sized .soil)) (omega (arith, p .sized .snow)) (still _ _ _ _ (p .soil)) (still _ _ _ _ (p .snow))
+    ready-lent (start l .pre) (l .loop .i) h _ _ _ (omega (arith, p .sized .soil)) (omega (arith, p .sized .snow)) (omega (arith, p .sized .recharged))
+    (still _ _ _ _ (p .soil)) (still _ _ _ _ (p .snow)) (still _ _ _ _ (p .recharged))
 
 add-cell-requires : tie.Need-add-cell-requires Inv-loop μ-loop
 add-cell-requires c κs =
