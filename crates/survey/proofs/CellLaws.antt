@@ -1,7 +1,6 @@
 -- From a cell's slot come back its entry and its group, so that the cell and the way that the code finds by it are the paper's.
 use mathlib.Core.Path.{_≡_, refl}
 use mathlib.Core.Bool.{Bool, true, cond}
-use mathlib.Core.List.{List}
 use Prim.Native.Nat.{ℕ, suc, _+_, _*_, _/_, _%_, _≤_, _<_}
 use native.Mathlib.Omega.{arith}
 use lib.Dec.{eqb}
@@ -36,10 +35,9 @@ module _ (s : Setup) (ok : Charted s) (i : ℕ) (h : i < cells s) where
   unfolding cell cellFrom isOpen
   cell-is = rw (slot-entry, slot-group, closed-by s ok i h) refl
 
-  pub way-is : (slots : List ℕ) → getD slots i 0 ≡ slotOf s i
-      → next s i ≡ wayAt (s .width) (s .height) (s .covers) slots (s .direction) i
+  pub way-is : (slot : ℕ → ℕ) → slot i ≡ slotOf s i → next s i ≡ wayAt (s .width) (s .height) (s .covers) slot (s .direction) i
   unfolding next goes wayAt isOpen
-  way-is slots e = rw (e, slot-entry) (go (eqb (openOf (s .covers) (entryOf s i)) 1) (goesBy (s .width) (s .height) i (wayOf (getD (s .direction) i 0))))
+  way-is slot e = rw (e, slot-entry) (go (eqb (openOf (s .covers) (entryOf s i)) 1) (goesBy (s .width) (s .height) i (wayOf (getD (s .direction) i 0))))
     where
       go : (b : Bool) (g : Goes) → pointed (cond b stays g) ≡ cond b (suc mostCells) (pointed g)
       go true g = unfold pointed in refl

@@ -18,13 +18,13 @@ use Rattle.theory.specs.Lowest.{Found, at, nowhere, lowest}
 use Rattle.theory.specs.Ways.{onRing, OneWay}
 use Rattle.theory.proofs.Cases.{byCases, below-or-not, and-second}
 use Rattle.theory.proofs.ListLaws.{over-length}
-use Rattle.theory.proofs.SumLaws.{sum-most, given-most}
+use Rattle.theory.proofs.SumLaws.{sum-cong, sum-most, given-most}
 use Rattle.theory.proofs.LowestLaws.{lowest-cong, lowest-none, none-lowest}
 use Rattle.records.specs.declared.answers.Place.{Place}
 use Rattle.records.specs.declared.answers.Place.the-variants.{Nowhere}
 use Rattle.records.specs.Places.{placeIn}
 use Rattle.survey.specs.Routes.{nextIn, WaysIn, OrderedBy, OrderOrRing}
-use Rattle.survey.specs.Peeling.{leading, waits, queued, Counted, Blank, Gathered, Queue, GatheredIn, QueueIn, ahead, PeeledIn}
+use Rattle.survey.specs.Peeling.{leading, waits, queued, waitFor, Counted, Blank, Gathered, Queue, GatheredIn, QueueIn, ahead, PeeledIn}
 use Rattle.survey.proofs.WayArrays.{over-at}
 use Rattle.survey.proofs.OrderLaws.{leads, elsewhere, one-more, no-places, without, without-it, without-other, start, room, waiting, shut, left-behind, still-waiting, new, joins, leftover-rings, peeled, peeled-who}
 
@@ -58,14 +58,14 @@ module _ {n : ℕ} {next : ℕ → ℕ} where
     pub count-fits : k ≤ 4096 → (i : ℕ) → i < n → getD l i 0 ≤ 33554432
     count-fits h i a = omega (arith, c .counts i a, sum-most k (leading next i) 1 (λ j _. unfold leading in given-most (eqb (next j) i) 1))
 
-    pub count-outside : n ≤ next k → Counted n next (k + 1) l
+    count-outside : n ≤ next k → Counted n next (k + 1) l
     count-outside h =
         record {
           sized = c .sized;
           counts = λ i a. rw add-one (omega (arith, c .counts i a, one-more k (leading next i), elsewhere next i k (λ e. omega arith)));
         }
 
-    pub count-inside : (j : ℕ) → next k ≡ j → j < n → n ≤ 4096 → Counted n next (k + 1) (set l j (getD l j 0 + 8192))
+    count-inside : (j : ℕ) → next k ≡ j → j < n → n ≤ 4096 → Counted n next (k + 1) (set l j (getD l j 0 + 8192))
     count-inside j e h m =
         record {
           sized = length-set l j (getD l j 0 + 8192) ∙ c .sized;
@@ -89,6 +89,22 @@ module _ {n : ℕ} {next : ℕ → ℕ} where
                 one-more k (leading next i),
                 elsewhere next i k (λ s. eqb-false j i p (sym e ∙ s)),
               )));
+        }
+
+    -- cell k's way is counted, inside or out
+    pub count-one : (way : ℕ) → next k ≡ way → n ≤ 4096 → Counted n next (k + 1) (waitFor n way l)
+    unfolding waitFor
+    count-one way e m =
+        below-or-not way n (λ h. rw (lt-ltb way n h) (count-inside way e h m)) (λ h. rw (le-ltb way n h) (count-outside (omega (arith, e))))
+
+    -- the counts are the same by a rule that agrees below k
+    pub count-by : (rule : ℕ → ℕ) → ((j : ℕ) → j < k → rule j ≡ next j) → Counted n rule k l
+    unfolding leading
+    count-by rule same =
+        record {
+          sized = c .sized;
+          counts = λ i a.
+              omega (arith, c .counts i a, sum-cong k (leading rule i) (leading next i) (λ j h. ap (λ (x : ℕ). given (eqb x i) 1) (same j h)));
         }
 
   pub counted-blank : {l : List ℕ} → Counted n next n l → n ≤ 4096 → Blank n l

@@ -8,7 +8,7 @@ use native.Mathlib.Nat.{le-trans}
 use native.Mathlib.Omega.{arith}
 use lib.Dec.{eqb, leb}
 use lib.ListN.{getD, List·getD-eq-default}
-use borrow.Author.Tests.{eq-eqb, ne-eqb, leb-true}
+use borrow.Author.Tests.{eq-eqb, ne-eqb, eqb-true, eqb-false, leb-true}
 use Rattle.theory.proofs.Cases.{byCases, below-or-not, cond-true, cond-false, and-left, and-right}
 use Rattle.theory.proofs.LowestLaws.{lowest-at, none-lowest}
 use Rattle.theory.specs.Lowest.{Found, at, nowhere, isFound, lowest, some}
@@ -41,6 +41,17 @@ module _ (index : List ℕ) (code group water : ℕ) where
       sym (cond-false (eqb (getD index code 0) 0) (ne-eqb _ _ some) _ _
       ∙ cond-true (within 1 4 group && leb water mostAvailableWater) e _ _)
 
+  -- a slot that is one has an entry of the index, and one of the four groups
+  pub slot-below : (slot entries : ℕ) → slot ≡ slotIn index code group water → (slot ≡ 256 → ⊥) → getD index code 0 ≤ entries → slot < 4 * entries
+  slot-below slot entries e some held =
+      byCases (eqb (getD index code 0) 0) (λ z. absurd (some (e ∙ sym (slot-none (eqb-true _ _ z)))))
+      (λ z. byCases (within 1 4 group && leb water mostAvailableWater)
+      (λ b.
+      let present : getD index code 0 ≡ 0 → ⊥ = eqb-false _ _ z in
+      let group-most : group ≤ 4 = leb-true _ _ (search (and-left, and-right)) in
+      omega (arith, e, slot-good present b))
+      (λ b. absurd (some (e ∙ sym (slot-bad b)))))
+
 -- what the search finds below k is at most k when counted from 1
 more-most : (k : ℕ) (test : ℕ → Bool) (f : Found) → lowest k test ≡ f → oneMore f ≤ k
 unfolding oneMore
@@ -57,11 +68,14 @@ module _ (covers index : List ℕ) (fit : EntriesFit covers) (known : Indexed co
       (λ e h. ne-eqb _ _ (λ (same : codeOf covers e ≡ code). let low : codeOf covers e < 256 = code-limit covers fit e h in omega arith)))
       (List·getD-eq-default index 0 {n = code} (rw (known .sized) past)))
 
+  pub index-entered : (code : ℕ) → getD index code 0 ≤ entries covers
+  index-entered code = rw (index-at code) (more-most (entries covers) _ _ refl)
+
   pub index-fits : IndexFits index
   index-fits =
       record {
         sized = known .sized;
-        few = λ code. rw (index-at code) (le-trans (more-most (entries covers) _ _ refl) (count-limit covers fit));
+        few = λ code. le-trans (index-entered code) (count-limit covers fit);
       }
 
   -- the slot that is found where the search finds f

@@ -3,10 +3,9 @@
 use mathlib.Core.Path.{_≡_, refl, sym, ap, _∙_}
 use mathlib.Core.Bool.{true, false, not}
 use mathlib.Core.List.{List, [], _∷_, _++_}
-use Prim.Native.Nat.{ℕ, _*_, _≤_, _<_}
+use Prim.Native.Nat.{ℕ, _*_, _<_}
 use native.Mathlib.Omega.{arith}
-use lib.Dec.{eqb}
-use lib.ListN.{length, getD, drop, replicate, length-replicate}
+use lib.ListN.{length, drop, replicate, length-replicate}
 use borrow.Author.Tests.{not-false}
 use Rattle.theory.specs.Lists.{madeOver}
 use Rattle.theory.specs.Lowest.{Found, at, nowhere, lowest}
@@ -21,13 +20,15 @@ use Rattle.paper.proofs.RefusalLaws.{pass-single, fail-single, pass-many, fail-
 use Rattle.records.specs.Calls.{refusedAs, outcomeIn}
 use Rattle.survey.specs.Survey.{Surveyable, Chart}
 use Rattle.survey.specs.Cells.{slotOf}
-use Rattle.survey.specs.Slots.{slotAt, IndexFits, SlotsOrBad, wayAt, Layable}
+use Rattle.survey.specs.Slots.{slotAt, wayAt, Layable, LaidOrBad}
+use Rattle.survey.specs.Peeling.{Counted}
 use Rattle.survey.specs.Routes.{nextIn, WaysIn, OrderedBy, OrderOrRing}
 use Rattle.records.specs.declared.answers.Outcome.the-variants.{Accepted}
 use Rattle.paper.proofs.SetupLaws.{Charted, next-past}
-use Rattle.survey.proofs.SlotLaws.{index-fits, slot-test, slot-is}
-use Rattle.survey.proofs.CellLaws.{slot-limit, way-is}
-use Rattle.survey.proofs.WayArrays.{over-at, ways-in, ways-next}
+use Rattle.survey.proofs.SlotLaws.{index-fits, index-entered, slot-test, slot-is}
+use Rattle.survey.proofs.CellLaws.{way-is}
+use Rattle.survey.proofs.WayArrays.{ways-in, ways-next}
+use Rattle.survey.proofs.QueueLaws.{count-by}
 use Rattle.records.specs.declared.answers.Outcome.{Outcome}
 use Rattle.survey.specs.Covers.{EntriesFit, Indexed}
 use Rattle.records.specs.Places.{placeIn}
@@ -115,21 +116,29 @@ module _ (s : Setup) (lent ways₀ : List ℕ) (pre : Surveyable s ways₀) (siz
   abbrev slot : ℕ → ℕ
   slot = slotAt index (s .cover) (s .group) (s .water)
 
-  pub slots-ask : IndexFits index × (length (s .cover) ≤ 4096) × (length (s .group) ≡ length (s .cover)) × (length (s .water) ≡ length (s .cover)) × (length lent ≡ 4096)
-  slots-ask = (
-    index-fits (s .covers) index fit known,
-    omega (arith, pre .covers, pre .few),
-    pre .groups ∙ sym (pre .covers),
-    pre .waters ∙ sym (pre .covers),
-    sized,
-  )
+  abbrev way : ℕ → ℕ
+  way = wayAt (s .width) (s .height) (s .covers) slot (s .direction)
 
-  module _ (r : Place) (slots : List ℕ) (sb : SlotsOrBad (length (s .cover)) slot r lent slots) where
+  pub lay-ask : Layable (s .width) (s .height) index (s .covers) (s .direction) (s .cover) (s .group) (s .water) lent ways₀
+  unfolding cells
+  lay-ask =
+      record {
+        wide = pre .wide;
+        few = pre .few;
+        indexed = index-fits (s .covers) index fit known;
+        entered = index-entered (s .covers) index fit known;
+        directions = pre .directions;
+        coded = pre .covers;
+        grouped = pre .groups;
+        watered = pre .waters;
+        slots-sized = sized;
+        ways-sized = ap length (pre .no-ways) ∙ length-replicate {A = ℕ} 4096 4097;
+      }
+
+  module _ (r : Place) (slots ways counts : List ℕ) (lb : LaidOrBad (s .width * s .height) slot way r lent slots ways₀ ways counts) where
     search-is : r ≡ placeIn (lowest (cells s) (λ i. not (cellFits s i)))
-    search-is =
-        sb .lowest-bad
-        ∙ ap placeIn (ap (λ (n : ℕ). lowest n (λ i. eqb (slot i) 256)) (pre .covers)
-        ∙ lowest-cong (cells s) _ _ (λ i h. slot-test s index fit known i))
+    unfolding cells
+    search-is = lb .lowest-bad ∙ ap placeIn (lowest-cong (cells s) _ _ (λ i h. slot-test s index fit known i))
 
     pub cell-found : (i : ℕ) → r ≡ At i → lowest (cells s) (λ k. not (cellFits s k)) ≡ at i
     cell-found i e = found-at _ i (sym e ∙ search-is)
@@ -138,7 +147,7 @@ module _ (s : Setup) (lent ways₀ : List ℕ) (pre : Surveyable s ways₀) (siz
       pub cells-fit : lowest (cells s) (λ k. not (cellFits s k)) ≡ nowhere
       cells-fit = found-no _ (sym through ∙ search-is)
 
-      pub charted : Charted s
+      charted : Charted s
       charted =
           record {
             wide = pre .wide;
@@ -149,64 +158,51 @@ module _ (s : Setup) (lent ways₀ : List ℕ) (pre : Surveyable s ways₀) (siz
             celled = λ i h. not-false _ (lowest-none _ _ cells-fit i h);
           }
 
-      slots-are : slots ≡ madeOver (cells s) (slotOf s) lent
-      unfolding madeOver
-      slots-are =
-          sb .filled through
-          ∙ rw (pre .covers)
-          (ap (λ (l : List ℕ). l ++ drop (cells s) lent)
-          (made-cong (cells s) slot (slotOf s) (λ i h. slot-is s index fit known i (charted .celled i h))))
+      slot-at : (i : ℕ) → i < cells s → slot i ≡ slotOf s i
+      slot-at i h = slot-is s index fit known i (charted .celled i h)
 
-      slot-at : (i : ℕ) → i < cells s → getD slots i 0 ≡ slotOf s i
-      slot-at i h = rw slots-are (over-at (cells s) (slotOf s) lent 0 i h)
+      slots-are : slots ≡ madeOver (cells s) (slotOf s) lent
+      unfolding madeOver cells
+      slots-are = lb .slotted through ∙ ap (λ (l : List ℕ). l ++ drop (cells s) lent) (made-cong (cells s) slot (slotOf s) slot-at)
 
       slots-sized : length slots ≡ 4096
       slots-sized = ap length slots-are ∙ over-length (cells s) (slotOf s) lent (omega (arith, sized, pre .few)) ∙ sized
 
-      pub lay-ask : Layable (s .width) (s .height) (s .covers) slots (s .direction) ways₀
+      ways-are : ways ≡ madeOver (cells s) (next s) (replicate 4096 4097)
+      unfolding madeOver cells
+      ways-are =
+          lb .laid through
+          ∙ rw (pre .no-ways)
+          (ap (λ (l : List ℕ). l ++ drop (cells s) (replicate 4096 4097))
+          (made-cong (cells s) way (next s) (λ i h. sym (way-is s charted i h slot (slot-at i h)))))
+
+      ways-point : nextIn ways ≡ next s
+      ways-point = ap nextIn ways-are ∙ ways-next (cells s) (next s) (pre .few) (next-past s charted (pre .directions))
+
+      counts-are : Counted (cells s) (nextIn ways) (cells s) counts
       unfolding cells
-      lay-ask =
-          record {
-            wide = pre .wide;
-            few = pre .few;
-            slots-sized = slots-sized;
-            ways-sized = ap length (pre .no-ways) ∙ length-replicate {A = ℕ} 4096 4097;
-            each = pre .directions;
-            slotted = λ i h. rw (slot-at i h) (slot-limit s charted i h);
-          }
+      counts-are = rw ways-point (count-by (lb .counted through) (next s) (λ i h. way-is s charted i h slot (slot-at i h)))
 
-      module _ (ways : List ℕ) (laid : ways ≡ madeOver (s .width * s .height) (wayAt (s .width) (s .height) (s .covers) slots (s .direction)) ways₀) where
-        ways-are : ways ≡ madeOver (cells s) (next s) (replicate 4096 4097)
-        unfolding madeOver cells
-        ways-are =
-            laid
-            ∙ rw (pre .no-ways)
-            (ap (λ (l : List ℕ). l ++ drop (cells s) (replicate 4096 4097))
-            (made-cong (cells s) _ (next s) (λ i h. sym (way-is s charted i h slots (slot-at i h)))))
+      pub order-ask : WaysIn (length (s .direction)) ways × Counted (length (s .direction)) (nextIn ways) (length (s .direction)) counts
+      order-ask = rw (pre .directions) (rw ways-are (ways-in (cells s) (next s) (pre .few)), counts-are)
 
-        ways-point : nextIn ways ≡ next s
-        ways-point = ap nextIn ways-are ∙ ways-next (cells s) (next s) (pre .few) (next-past s charted (pre .directions))
+      module _ (found : Place) (order : List ℕ) (o : OrderOrRing (length (s .direction)) (nextIn ways) found order) where
+        ring-is : found ≡ placeIn (lowest (cells s) (onRing (cells s) (next s)))
+        ring-is = rw (ways-point, pre .directions) at (o .ring)
 
-        pub order-ask : WaysIn (length (s .direction)) ways
-        order-ask = rw (pre .directions, ways-are) (ways-in (cells s) (next s) (pre .few))
+        pub ring-found : (i : ℕ) → found ≡ At i → lowest (cells s) (onRing (cells s) (next s)) ≡ at i
+        ring-found i e = found-at _ i (sym e ∙ ring-is)
 
-        module _ (found : Place) (order : List ℕ) (o : OrderOrRing (length (s .direction)) (nextIn ways) found order) where
-          ring-is : found ≡ placeIn (lowest (cells s) (onRing (cells s) (next s)))
-          ring-is = rw (ways-point, pre .directions) at (o .ring)
+        module _ (straight : found ≡ Nowhere) where
+          pub no-ring : lowest (cells s) (onRing (cells s) (next s)) ≡ nowhere
+          no-ring = found-no _ (sym straight ∙ ring-is)
 
-          pub ring-found : (i : ℕ) → found ≡ At i → lowest (cells s) (onRing (cells s) (next s)) ≡ at i
-          ring-found i e = found-at _ i (sym e ∙ ring-is)
+          ordered-by : OrderedBy (cells s) (next s) order
+          ordered-by = rw (ways-point, pre .directions) at (o .ordered straight)
 
-          module _ (straight : found ≡ Nowhere) where
-            pub no-ring : lowest (cells s) (onRing (cells s) (next s)) ≡ nowhere
-            no-ring = found-no _ (sym straight ∙ ring-is)
-
-            ordered-by : OrderedBy (cells s) (next s) order
-            ordered-by = rw (ways-point, pre .directions) at (o .ordered straight)
-
-            pub surveyed : seasonFits s ≡ true → Chart s lent Accepted slots ways order
-            surveyed e =
-                record {
-                  outcome = sym (ap outcomeIn (all-pass s size none cells-fit no-ring e));
-                  mapped = λ a. record { slots-are = slots-are; slots-sized = slots-sized; ways-are = ways-are; ordered = ordered-by };
-                }
+          pub surveyed : seasonFits s ≡ true → Chart s lent Accepted slots ways order
+          surveyed e =
+              record {
+                outcome = sym (ap outcomeIn (all-pass s size none cells-fit no-ring e));
+                mapped = λ a. record { slots-are = slots-are; slots-sized = slots-sized; ways-are = ways-are; ordered = ordered-by };
+              }

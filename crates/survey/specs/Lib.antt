@@ -3,6 +3,6 @@ pub mod Cells
 pub mod Grounds
 pub mod Fresh
 pub mod Routes
-pub mod Slots
 pub mod Peeling
+pub mod Slots
 pub mod Survey

@@ -2,11 +2,11 @@
 -- at place i of the queue. The queue holds the cells that wait for none, the sources first. From each source the peeling goes down for as long as
 -- the next cell waits for no other, and takes it as it joins the queue.
 use mathlib.Core.Path.{_≡_}
-use mathlib.Core.Bool.{Bool, false, _&&_}
+use mathlib.Core.Bool.{Bool, false, cond, _&&_}
 use mathlib.Core.List.{List}
-use Prim.Native.Nat.{ℕ, _*_, _/_, _%_, _≤_, _<_}
+use Prim.Native.Nat.{ℕ, _+_, _*_, _/_, _%_, _≤_, _<_}
 use lib.Dec.{eqb, leb, ltb}
-use lib.ListN.{length, getD}
+use lib.ListN.{length, getD, set}
 use Rattle.theory.specs.Sums.{sum, given}
 
 -- 1 where j leads to i
@@ -23,6 +23,10 @@ queued l t = getD l t 0 % 8192
 pub record Counted (n : ℕ) (next : ℕ → ℕ) (k : ℕ) (l : List ℕ) : Type 0 where
   pub sized : length l ≡ 4096
   pub counts : (i : ℕ) → i < n → getD l i 0 ≡ 8192 * sum k (leading next i)
+
+-- the cell to which the way leads, if it is one of the n, is to wait for one more
+unfoldable pub waitFor : ℕ → ℕ → List ℕ → List ℕ
+waitFor n way l = cond (ltb way n) (set l way (getD l way 0 + 8192)) l
 
 -- the counts of n cells, and no queue
 pub record Blank (n : ℕ) (l : List ℕ) : Type 0 where

@@ -2,7 +2,7 @@
 use mathlib.Core.Path.{_≡_}
 use mathlib.Core.Bool.{cond, _&&_}
 use mathlib.Core.List.{List}
-use Prim.Native.Nat.{ℕ, suc, _+_, _*_, _/_, _-_, _≤_, _<_}
+use Prim.Native.Nat.{ℕ, suc, _+_, _*_, _/_, _-_, _≤_}
 use lib.Dec.{eqb, leb}
 use lib.ListN.{length, getD}
 use Rattle.theory.specs.Lists.{madeOver}
@@ -12,6 +12,7 @@ use Rattle.paper.specs.Covers.{openOf, entries}
 use Rattle.paper.specs.Directions.{wayOf, goesBy}
 use Rattle.paper.specs.Setup.{pointed}
 use Rattle.survey.specs.Routes.{goesFrom}
+use Rattle.survey.specs.Peeling.{Counted}
 use Rattle.records.specs.Places.{placeIn}
 use Rattle.records.specs.declared.answers.Place.{Place}
 use Rattle.records.specs.declared.answers.Place.the-variants.{Nowhere}
@@ -30,27 +31,33 @@ pub record IndexFits (index : List ℕ) : Type 0 where
   pub sized : length index ≡ 256
   pub few : (code : ℕ) → getD index code 0 ≤ 64
 
--- the lowest cell without a slot; and where there is none, the slots over the front of the array
-pub record SlotsOrBad (n : ℕ) (slot : ℕ → ℕ) (r : Place) (before after : List ℕ) : Type 0 where
-  pub lowest-bad : r ≡ placeIn (lowest n (λ i. eqb (slot i) 256))
-  pub filled : r ≡ Nowhere → after ≡ madeOver n slot before
-
 -- where a cell points, by its row and column, whether it is open water, and its direction byte
 unfoldable pub wayFrom : ℕ → ℕ → ℕ → ℕ → ℕ → ℕ → ℕ
 wayFrom width height row column lake byte =
     cond (eqb lake 1) (suc mostCells) (pointed (goesFrom width height row column (wayOf byte)))
 
--- where cell i points
-unfoldable pub wayAt : ℕ → ℕ → List ℕ → List ℕ → List ℕ → ℕ → ℕ
-wayAt width height covers slots direction i =
-    cond (eqb (openOf covers (getD slots i 0 / 4)) 1) (suc mostCells)
+-- where cell i points, by its slot
+unfoldable pub wayAt : ℕ → ℕ → List ℕ → (ℕ → ℕ) → List ℕ → ℕ → ℕ
+wayAt width height covers slot direction i =
+    cond (eqb (openOf covers (slot i / 4)) 1) (suc mostCells)
     (pointed (goesBy width height i (wayOf (getD direction i 0))))
 
--- a grid of at most 4,096 cells, their directions and slots
-pub record Layable (width height : ℕ) (covers slots direction ways : List ℕ) : Type 0 where
+-- a grid of at most 4,096 cells with one entry each, an index of the table's entries, and arrays with room for the slots and the ways
+pub record Layable (width height : ℕ) (index covers direction cover group water slots ways : List ℕ) : Type 0 where
   pub wide : 1 ≤ width
   pub few : width * height ≤ mostCells
+  pub indexed : IndexFits index
+  pub entered : (code : ℕ) → getD index code 0 ≤ entries covers
+  pub directions : length direction ≡ width * height
+  pub coded : length cover ≡ width * height
+  pub grouped : length group ≡ width * height
+  pub watered : length water ≡ width * height
   pub slots-sized : length slots ≡ 4096
   pub ways-sized : length ways ≡ 4096
-  pub each : length direction ≡ width * height
-  pub slotted : (i : ℕ) → i < width * height → getD slots i 0 < 4 * entries covers
+
+-- the lowest cell without a slot; and where there is none, the slots and the ways over the front of their arrays, and how many cells lead to each
+pub record LaidOrBad (n : ℕ) (slot way : ℕ → ℕ) (r : Place) (slots₀ slots ways₀ ways order : List ℕ) : Type 0 where
+  pub lowest-bad : r ≡ placeIn (lowest n (λ i. eqb (slot i) 256))
+  pub slotted : r ≡ Nowhere → slots ≡ madeOver n slot slots₀
+  pub laid : r ≡ Nowhere → ways ≡ madeOver n way ways₀
+  pub counted : r ≡ Nowhere → Counted n way n order

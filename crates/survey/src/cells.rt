@@ -1,9 +1,9 @@
-// The cells' own numbers, test 4, and where each cell points.
+// The cells' own numbers, test 4, where each cell points, and how many lead to it.
 ghost use mathlib.Core.Path.{_≡_};
 ghost use Prim.Native.Nat.{_*_, _≤_, _<_};
-ghost use Rattle.theory.specs.Lists.{madeOver};
-ghost use lib.ListN.{length};
-ghost use Rattle.survey.specs.Slots.{slotIn, slotAt, IndexFits, SlotsOrBad, wayFrom, wayAt, Layable};
+ghost use Rattle.survey.specs.Slots.{slotIn, slotAt, IndexFits, wayFrom, wayAt, Layable, LaidOrBad};
+use crate::order::none_waiting;
+use crate::order::wait_for;
 use crate::ways::STAYS;
 use crate::ways::way;
 use records::Place;
@@ -36,30 +36,6 @@ fn slot(index: &[u32; 256], code: u32, group: u32, water: u32) -> u32
     4 * (entry - 1) + (group - 1)
 }
 
-// The lowest cell whose numbers do not fit; where there is none, every cell's slot.
-pub(crate) fn slots(
-    index: &[u32; 256],
-    cover: &[u32],
-    group: &[u32],
-    water: &[u32],
-    slots: &mut [u32],
-) -> Place
-    requires { ⌜ (IndexFits (now index)) × (length (now cover) ≤ 4096) × (length (now group) ≡ length (now cover)) × (length (now water) ≡ length (now cover)) × (length (now slots) ≡ 4096) ⌝ }
-    ensures { λ r. ⌜ SlotsOrBad (length (now (cover .entry))) (slotAt (now (index .entry)) (now (cover .entry)) (now (group .entry)) (now (water .entry))) r (now (slots .entry)) (now (slots .exit)) ⌝ }
-{
-    let n = cover.len();
-    let mut i = 0;
-    while i < n {
-        let found = slot(index, cover[i], group[i], water[i]);
-        if found == NONE {
-            return Place::At(i);
-        }
-        slots[i] = found;
-        i += 1;
-    }
-    Place::Nowhere
-}
-
 // Where a cell of that row and column points: open water nowhere, whatever its byte.
 fn cell_way(width: u32, height: u32, row: u32, column: u32, lake: u32, byte: u32) -> u32
     requires { ⌜ (row < height) × (column < width) × (width * height ≤ 4096) ⌝ }
@@ -71,32 +47,38 @@ fn cell_way(width: u32, height: u32, row: u32, column: u32, lake: u32, byte: u32
     way(width, height, row, column, byte)
 }
 
-// Where every cell points, row by row.
-pub(crate) fn lay_ways(
+// Each cell's slot, where it points, and how many cells lead to each, in one pass row by row; or the lowest cell whose numbers do not fit.
+pub(crate) fn lay_cells(
     width: u32,
     height: u32,
+    index: &[u32; 256],
     covers: &[u32],
-    slots: &[u32; 4096],
     direction: &[u32],
+    cover: &[u32],
+    group: &[u32],
+    water: &[u32],
+    slots: &mut [u32],
     ways: &mut [u32; 4096],
-)
-    requires { ⌜ Layable width height (now covers) (now slots) (now direction) (now ways) ⌝ }
-    ensures { λ r. ⌜ now (ways .exit) ≡ madeOver (width * height) (wayAt width height (now (covers .entry)) (now (slots .entry)) (now (direction .entry))) (now (ways .entry)) ⌝ }
+    order: &mut [u32; 4096],
+) -> Place
+    requires { ⌜ Layable width height (now index) (now covers) (now direction) (now cover) (now group) (now water) (now slots) (now ways) ⌝ }
+    ensures { λ r. ⌜ LaidOrBad (width * height) (slotAt (now (index .entry)) (now (cover .entry)) (now (group .entry)) (now (water .entry))) (wayAt width height (now (covers .entry)) (slotAt (now (index .entry)) (now (cover .entry)) (now (group .entry)) (now (water .entry))) (now (direction .entry))) r (now (slots .entry)) (now (slots .exit)) (now (ways .entry)) (now (ways .exit)) (now (order .exit)) ⌝ }
 {
-    let n = direction.len();
+    let n = cover.len();
+    none_waiting(n, order);
     let mut row = 0;
     let mut column = 0;
     let mut i = 0;
     while i < n {
-        let entry = place(slots[i]) / 4;
-        ways[i] = cell_way(
-            width,
-            height,
-            row,
-            column,
-            covers[16 * entry + 1],
-            direction[i],
-        );
+        let found = slot(index, cover[i], group[i], water[i]);
+        if found == NONE {
+            return Place::At(i);
+        }
+        slots[i] = found;
+        let lake = covers[16 * (place(found) / 4) + 1];
+        let way = cell_way(width, height, row, column, lake, direction[i]);
+        ways[i] = way;
+        wait_for(n, way, order);
         column += 1;
         if column == width {
             column = 0;
@@ -104,4 +86,5 @@ pub(crate) fn lay_ways(
         }
         i += 1;
     }
+    Place::Nowhere
 }

@@ -1,8 +1,7 @@
 // The survey of a setup: tests 1 to 6, and what a day needs of it: every cell's slot, where it points, and the order of the cells.
 ghost use Rattle.records.specs.Calls.{setupOf};
 ghost use Rattle.survey.specs.Survey.{Blank, Surveyable, Chart, Surveyed};
-use crate::cells::lay_ways;
-use crate::cells::slots;
+use crate::cells::lay_cells;
 use crate::covers::bad_entry;
 use crate::covers::index_codes;
 use crate::covers::size_fits;
@@ -39,11 +38,22 @@ fn chart(
     }
     let mut index = [0u32; 256];
     index_codes(covers, &mut index);
-    let cell = slots(&index, cover, group, water, slot);
+    let cell = lay_cells(
+        setup.width,
+        setup.height,
+        &index,
+        covers,
+        direction,
+        cover,
+        group,
+        water,
+        slot,
+        way,
+        turn,
+    );
     if let Place::At(i) = cell {
         return Outcome::CellNumbers(i);
     }
-    lay_ways(setup.width, setup.height, covers, slot, direction, way);
     let ring = order(direction.len(), way, turn);
     if let Place::At(i) = ring {
         return Outcome::RingAt(i);

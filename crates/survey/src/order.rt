@@ -1,14 +1,14 @@
 // The order of the cells, upslope first, by peeling in one array: entry i is 8192 times the number of cells that cell i still waits
 // for, plus the cell at place i of a queue of cells that wait for none. Where no ring is left over, the array ends as the order.
 ghost use mathlib.Core.Path.{_≡_};
-ghost use Prim.Native.Nat.{_≤_};
+ghost use Prim.Native.Nat.{_≤_, _<_};
 ghost use lib.Dec.{ltb};
-ghost use lib.ListN.{length};
+ghost use lib.ListN.{length, getD};
 ghost use Rattle.theory.specs.Lists.{madeOver};
 ghost use Rattle.theory.specs.Lowest.{lowest};
 ghost use Rattle.survey.specs.Routes.{nextIn, WaysIn, OrderOrRing};
 ghost use Rattle.records.specs.Places.{placeIn};
-ghost use Rattle.survey.specs.Peeling.{waits, Counted, Blank, GatheredIn, PeeledIn};
+ghost use Rattle.survey.specs.Peeling.{waits, waitFor, Counted, Blank, GatheredIn, PeeledIn};
 use records::Place;
 use records::place;
 
@@ -16,7 +16,7 @@ use records::place;
 const ONE: u32 = 8192;
 
 // No cell waits yet, and no queue stands there. The array is lent as a slice, whose length the prover knows.
-fn none_waiting(n: usize, order: &mut [u32])
+pub(crate) fn none_waiting(n: usize, order: &mut [u32])
     requires { ⌜ n ≤ length (now order) ⌝ }
     ensures { λ r. ⌜ now (order .exit) ≡ madeOver n (λ i. 0) (now (order .entry)) ⌝ }
 {
@@ -27,19 +27,14 @@ fn none_waiting(n: usize, order: &mut [u32])
     }
 }
 
-// Each cell is to wait for all that lead to it.
-fn count(n: usize, ways: &[u32; 4096], order: &mut [u32; 4096])
-    requires { ⌜ WaysIn n (now ways) ⌝ }
-    ensures { λ r. ⌜ Counted n (nextIn (now (ways .entry))) n (now (order .exit)) ⌝ }
+// The cell to which the way leads, if it leads to one, is to wait for one more.
+pub(crate) fn wait_for(n: usize, way: u32, order: &mut [u32; 4096])
+    requires { ⌜ (n ≤ 4096) × (way < n → getD (now order) way 0 ≤ 33554432) ⌝ }
+    ensures { λ r. ⌜ now (order .exit) ≡ waitFor n way (now (order .entry)) ⌝ }
 {
-    none_waiting(n, order);
-    let mut i = 0;
-    while i < n {
-        let j = place(ways[i]);
-        if j < n {
-            order[j] += ONE;
-        }
-        i += 1;
+    let j = place(way);
+    if j < n {
+        order[j] += ONE;
     }
 }
 
@@ -107,11 +102,11 @@ fn leftover(n: usize, order: &[u32; 4096]) -> Place
     Place::Nowhere
 }
 
+// The array holds how many cells lead to each, and then the order.
 pub(crate) fn order(n: usize, ways: &[u32; 4096], order: &mut [u32; 4096]) -> Place
-    requires { ⌜ WaysIn n (now ways) ⌝ }
+    requires { ⌜ (WaysIn n (now ways)) × (Counted n (nextIn (now ways)) n (now order)) ⌝ }
     ensures { λ r. ⌜ OrderOrRing n (nextIn (now (ways .entry))) r (now (order .exit)) ⌝ }
 {
-    count(n, ways, order);
     let first = sources(n, order);
     let taken = peel(n, ways, order, first);
     if taken < n {

@@ -4,7 +4,7 @@ use Rattle.records.specs.Calls.{setupOf}
 use mathlib.Core.Path.{sym, _∙_, refl}
 use borrow.Author.Tests.{not-true, not-false}
 use Rattle.paper.specs.Refusals.{coverTable, cellNumbers, ring, season}
-use Rattle.survey.proofs.SurveyLaws.{found-at, found-no, refuse, size-bad, entry-bad, entries-fit, slots-ask, cell-bad, cell-found, cells-fit, lay-ask, order-ask, ring-bad, ring-found, no-ring, season-bad, surveyed}
+use Rattle.survey.proofs.SurveyLaws.{found-at, found-no, refuse, size-bad, entry-bad, entries-fit, lay-ask, cell-bad, cell-found, cells-fit, order-ask, ring-bad, ring-found, no-ring, season-bad, surveyed}
 use borrow.Author.Needs.{needs}
 use Rattle.survey.proofs.charts.chart.Statement.{statement}
 use Rattle.survey.proofs.charts.chart.Tie as tie
@@ -47,9 +47,9 @@ index-codes-requires c κs =
       refl,
     )
 
-slots-requires : tie.Need-slots-requires
-slots-requires c κs =
-    let at-index-codes = c .before .before in
+lay-cells-requires : tie.Need-lay-cells-requires
+lay-cells-requires c κs =
+    let at-index-codes = c .before .before .before .before in
     let at-enum-told = at-index-codes .before .before in
     let at-bad-entry = at-enum-told .before .before in
     let at-if1 = at-bad-entry .before in
@@ -57,10 +57,10 @@ slots-requires c κs =
     let start = at-size-fits .before .before .before .before .before .before in
     let a = start .args in
     let s = setupOf (a .setup) (a .covers .now) (a .direction .now) (a .cover .now) (a .group .now) (a .water .now) in
-    slots-ask s (a .slot .now) _ (start .pre)
+    lay-ask s (a .slot .now) _ (start .pre)
     (sym (at-size-fits .size-fits .ensures) ∙ not-false _ (at-if1 .if1 .left))
     (found-no _ (sym (at-enum-told .enum-told .given .1) ∙ at-bad-entry .bad-entry .ensures))
-    _ (at-index-codes .index-codes .ensures) (c .slots-arg .given .0 .1)
+    _ (at-index-codes .index-codes .ensures) (c .before .before .lay-cells-arg .given .0 .1)
 
 enum-known-cell : tie.Need-enum-known-cell
 enum-known-cell c = search needs
@@ -68,8 +68,8 @@ enum-known-cell c = search needs
 returns-3 : tie.Need-returns-3
 returns-3 c =
     let at-cell = c .before in
-    let at-slots = at-cell .before .before in
-    let at-index-codes = at-slots .before .before .before in
+    let at-lay-cells = at-cell .before .before in
+    let at-index-codes = at-lay-cells .before .before .before .before .before in
     let at-enum-told = at-index-codes .before .before in
     let at-bad-entry = at-enum-told .before .before in
     let at-if1 = at-bad-entry .before in
@@ -84,36 +84,17 @@ returns-3 c =
     _ (cell-found s _ _ (start .pre)
     (sym (at-size-fits .size-fits .ensures) ∙ not-false _ (at-if1 .if1 .left))
     (found-no _ (sym (at-enum-told .enum-told .given .1) ∙ at-bad-entry .bad-entry .ensures))
-    _ (at-index-codes .index-codes .ensures) (at-slots .before .slots-arg .given .0 .1)
-    _ _ (at-slots .slots .ensures) _ (at-cell .cell .given .1))) refl
+    _ (at-index-codes .index-codes .ensures) (at-lay-cells .before .before .before .lay-cells-arg .given .0 .1)
+    _ _ _ _ (at-lay-cells .lay-cells .ensures) _ (at-cell .cell .given .1))) refl
 
 enum-told-2 : tie.Need-enum-told-2
 enum-told-2 c = search needs
 
-lay-ways-requires : tie.Need-lay-ways-requires
-lay-ways-requires c κs =
-    let at-enum-told2 = c .before .before in
-    let at-slots = at-enum-told2 .before .before in
-    let at-index-codes = at-slots .before .before .before in
-    let at-enum-told = at-index-codes .before .before in
-    let at-bad-entry = at-enum-told .before .before in
-    let at-if1 = at-bad-entry .before in
-    let at-size-fits = at-if1 .before in
-    let start = at-size-fits .before .before .before .before .before .before in
-    let a = start .args in
-    let s = setupOf (a .setup) (a .covers .now) (a .direction .now) (a .cover .now) (a .group .now) (a .water .now) in
-    lay-ask s _ _ (start .pre)
-    (sym (at-size-fits .size-fits .ensures) ∙ not-false _ (at-if1 .if1 .left))
-    (found-no _ (sym (at-enum-told .enum-told .given .1) ∙ at-bad-entry .bad-entry .ensures))
-    _ (at-index-codes .index-codes .ensures) (at-slots .before .slots-arg .given .0 .1)
-    _ _ (at-slots .slots .ensures) (at-enum-told2 .enum-told2 .given .1)
-
 order-requires : tie.Need-order-requires
 order-requires c κs =
-    let at-lay-ways = c .before .before in
-    let at-enum-told2 = at-lay-ways .before .before .before in
-    let at-slots = at-enum-told2 .before .before in
-    let at-index-codes = at-slots .before .before .before in
+    let at-enum-told2 = c .before .before in
+    let at-lay-cells = at-enum-told2 .before .before in
+    let at-index-codes = at-lay-cells .before .before .before .before .before in
     let at-enum-told = at-index-codes .before .before in
     let at-bad-entry = at-enum-told .before .before in
     let at-if1 = at-bad-entry .before in
@@ -124,9 +105,8 @@ order-requires c κs =
     order-ask s _ _ (start .pre)
     (sym (at-size-fits .size-fits .ensures) ∙ not-false _ (at-if1 .if1 .left))
     (found-no _ (sym (at-enum-told .enum-told .given .1) ∙ at-bad-entry .bad-entry .ensures))
-    _ (at-index-codes .index-codes .ensures) (at-slots .before .slots-arg .given .0 .1)
-    _ _ (at-slots .slots .ensures) (at-enum-told2 .enum-told2 .given .1)
-    _ (at-lay-ways .lay-ways .ensures)
+    _ (at-index-codes .index-codes .ensures) (at-lay-cells .before .before .before .lay-cells-arg .given .0 .1)
+    _ _ _ _ (at-lay-cells .lay-cells .ensures) (at-enum-told2 .enum-told2 .given .1)
 
 enum-known-ring : tie.Need-enum-known-ring
 enum-known-ring c = search needs
@@ -135,10 +115,9 @@ returns-4 : tie.Need-returns-4
 returns-4 c =
     let at-ring = c .before in
     let at-order = at-ring .before .before in
-    let at-lay-ways = at-order .before .before .before in
-    let at-enum-told2 = at-lay-ways .before .before .before in
-    let at-slots = at-enum-told2 .before .before in
-    let at-index-codes = at-slots .before .before .before in
+    let at-enum-told2 = at-order .before .before .before in
+    let at-lay-cells = at-enum-told2 .before .before in
+    let at-index-codes = at-lay-cells .before .before .before .before .before in
     let at-enum-told = at-index-codes .before .before in
     let at-bad-entry = at-enum-told .before .before in
     let at-if1 = at-bad-entry .before in
@@ -153,14 +132,13 @@ returns-4 c =
     (cells-fit s _ _ (start .pre)
     (sym (at-size-fits .size-fits .ensures) ∙ not-false _ (at-if1 .if1 .left))
     (found-no _ (sym (at-enum-told .enum-told .given .1) ∙ at-bad-entry .bad-entry .ensures))
-    _ (at-index-codes .index-codes .ensures) (at-slots .before .slots-arg .given .0 .1)
-    _ _ (at-slots .slots .ensures) (at-enum-told2 .enum-told2 .given .1))
+    _ (at-index-codes .index-codes .ensures) (at-lay-cells .before .before .before .lay-cells-arg .given .0 .1)
+    _ _ _ _ (at-lay-cells .lay-cells .ensures) (at-enum-told2 .enum-told2 .given .1))
     _ (ring-found s _ _ (start .pre)
     (sym (at-size-fits .size-fits .ensures) ∙ not-false _ (at-if1 .if1 .left))
     (found-no _ (sym (at-enum-told .enum-told .given .1) ∙ at-bad-entry .bad-entry .ensures))
-    _ (at-index-codes .index-codes .ensures) (at-slots .before .slots-arg .given .0 .1)
-    _ _ (at-slots .slots .ensures) (at-enum-told2 .enum-told2 .given .1)
-    _ (at-lay-ways .lay-ways .ensures) _ _ (at-order .order .ensures) _ (at-ring .ring .given .1))) refl
+    _ (at-index-codes .index-codes .ensures) (at-lay-cells .before .before .before .lay-cells-arg .given .0 .1)
+    _ _ _ _ (at-lay-cells .lay-cells .ensures) (at-enum-told2 .enum-told2 .given .1) _ _ (at-order .order .ensures) _ (at-ring .ring .given .1))) refl
 
 enum-told-3 : tie.Need-enum-told-3
 enum-told-3 c = search needs
@@ -174,10 +152,9 @@ returns-5 c =
     let at-season-fits = c .before in
     let at-enum-told3 = at-season-fits .before in
     let at-order = at-enum-told3 .before .before in
-    let at-lay-ways = at-order .before .before .before in
-    let at-enum-told2 = at-lay-ways .before .before .before in
-    let at-slots = at-enum-told2 .before .before in
-    let at-index-codes = at-slots .before .before .before in
+    let at-enum-told2 = at-order .before .before .before in
+    let at-lay-cells = at-enum-told2 .before .before in
+    let at-index-codes = at-lay-cells .before .before .before .before .before in
     let at-enum-told = at-index-codes .before .before in
     let at-bad-entry = at-enum-told .before .before in
     let at-if1 = at-bad-entry .before in
@@ -192,14 +169,13 @@ returns-5 c =
     (cells-fit s _ _ (start .pre)
     (sym (at-size-fits .size-fits .ensures) ∙ not-false _ (at-if1 .if1 .left))
     (found-no _ (sym (at-enum-told .enum-told .given .1) ∙ at-bad-entry .bad-entry .ensures))
-    _ (at-index-codes .index-codes .ensures) (at-slots .before .slots-arg .given .0 .1)
-    _ _ (at-slots .slots .ensures) (at-enum-told2 .enum-told2 .given .1))
+    _ (at-index-codes .index-codes .ensures) (at-lay-cells .before .before .before .lay-cells-arg .given .0 .1)
+    _ _ _ _ (at-lay-cells .lay-cells .ensures) (at-enum-told2 .enum-told2 .given .1))
     (no-ring s _ _ (start .pre)
     (sym (at-size-fits .size-fits .ensures) ∙ not-false _ (at-if1 .if1 .left))
     (found-no _ (sym (at-enum-told .enum-told .given .1) ∙ at-bad-entry .bad-entry .ensures))
-    _ (at-index-codes .index-codes .ensures) (at-slots .before .slots-arg .given .0 .1)
-    _ _ (at-slots .slots .ensures) (at-enum-told2 .enum-told2 .given .1)
-    _ (at-lay-ways .lay-ways .ensures) _ _ (at-order .order .ensures) (at-enum-told3 .enum-told3 .given .1))
+    _ (at-index-codes .index-codes .ensures) (at-lay-cells .before .before .before .lay-cells-arg .given .0 .1)
+    _ _ _ _ (at-lay-cells .lay-cells .ensures) (at-enum-told2 .enum-told2 .given .1) _ _ (at-order .order .ensures) (at-enum-told3 .enum-told3 .given .1))
     (sym (at-season-fits .season-fits .ensures) ∙ not-true _ (c .if2 .taken))) refl
 
 returns-6 : tie.Need-returns-6
@@ -208,10 +184,9 @@ returns-6 c =
     let at-season-fits = c .before in
     let at-enum-told3 = at-season-fits .before in
     let at-order = at-enum-told3 .before .before in
-    let at-lay-ways = at-order .before .before .before in
-    let at-enum-told2 = at-lay-ways .before .before .before in
-    let at-slots = at-enum-told2 .before .before in
-    let at-index-codes = at-slots .before .before .before in
+    let at-enum-told2 = at-order .before .before .before in
+    let at-lay-cells = at-enum-told2 .before .before in
+    let at-index-codes = at-lay-cells .before .before .before .before .before in
     let at-enum-told = at-index-codes .before .before in
     let at-bad-entry = at-enum-told .before .before in
     let at-if1 = at-bad-entry .before in
@@ -222,9 +197,8 @@ returns-6 c =
     surveyed s _ _ (start .pre)
     (sym (at-size-fits .size-fits .ensures) ∙ not-false _ (at-if1 .if1 .left))
     (found-no _ (sym (at-enum-told .enum-told .given .1) ∙ at-bad-entry .bad-entry .ensures))
-    _ (at-index-codes .index-codes .ensures) (at-slots .before .slots-arg .given .0 .1)
-    _ _ (at-slots .slots .ensures) (at-enum-told2 .enum-told2 .given .1)
-    _ (at-lay-ways .lay-ways .ensures) _ _ (at-order .order .ensures) (at-enum-told3 .enum-told3 .given .1)
+    _ (at-index-codes .index-codes .ensures) (at-lay-cells .before .before .before .lay-cells-arg .given .0 .1)
+    _ _ _ _ (at-lay-cells .lay-cells .ensures) (at-enum-told2 .enum-told2 .given .1) _ _ (at-order .order .ensures) (at-enum-told3 .enum-told3 .given .1)
     (sym (at-season-fits .season-fits .ensures) ∙ not-false _ (c .if2 .left))
 
 pub chart-spec : {M : Type 1} → statement M
@@ -238,11 +212,10 @@ chart-spec =
     returns-2
     enum-told
     index-codes-requires
-    slots-requires
+    lay-cells-requires
     enum-known-cell
     returns-3
     enum-told-2
-    lay-ways-requires
     order-requires
     enum-known-ring
     returns-4

@@ -1,31 +1,28 @@
--- `order::order` meets its contract, by what its four parts ensure: the counts give the sources' array, with these it holds a queue, and at
+-- `order::order` meets its contract, by what its three parts ensure: the counts give the sources' array, with these it holds a queue, and at
 -- the queue's end the laws say that the cells left over are those on rings, and that with none left over the array is the order.
 use borrow.Author.Needs.{needs}
 use Rattle.survey.proofs.order.order.Statement.{statement}
 use Rattle.survey.proofs.QueueLaws.{counted-blank, queue-start, one-way, some-left, all-taken}
 use Rattle.survey.proofs.order.order.Tie as tie
 
-count-requires : tie.Need-count-requires
-count-requires c κs = search needs
-
 sources-requires : tie.Need-sources-requires
-sources-requires c κs = counted-blank (c .before .count .ensures) (c .before .before .before .pre .most)
+sources-requires c κs = counted-blank (c .before .pre .1) (c .before .pre .0 .most)
 
 peel-requires : tie.Need-peel-requires
-peel-requires c κs = (c .before .before .before .before .before .pre, queue-start (c .before .before .before .count .ensures) (c .before .sources .ensures))
+peel-requires c κs = (c .before .before .before .pre .0, queue-start (c .before .before .before .pre .1) (c .before .sources .ensures))
 
 leftover-requires : tie.Need-leftover-requires
 leftover-requires c κs = search needs
 
 returns : tie.Need-returns
-returns c = let s = c .before .before .before .before .before .before .before .before .before in
-    some-left (c .before .before .before .peel .ensures) (one-way (s .pre)) (c .leftover .ensures)
+returns c = let s = c .before .before .before .before .before .before .before in
+    some-left (c .before .before .before .peel .ensures) (one-way (s .pre .0)) (c .leftover .ensures)
 
 returns-2 : tie.Need-returns-2
-returns-2 c = let s = c .before .before .before .before .before .before .before in
-    all-taken (c .before .peel .ensures) (one-way (s .pre)) (c .if1 .left)
+returns-2 c = let s = c .before .before .before .before .before in
+    all-taken (c .before .peel .ensures) (one-way (s .pre .0)) (c .if1 .left)
 
 pub order-spec : {M : Type 1} → statement M
 order-spec =
     tie.close
-    (tie.spec count-requires sources-requires peel-requires leftover-requires returns returns-2)
+    (tie.spec sources-requires peel-requires leftover-requires returns returns-2)
