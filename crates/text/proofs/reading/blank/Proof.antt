@@ -6,7 +6,7 @@ use Rattle.text.specs.Words.{isBlank}
 
 returns : tie.Need-returns
 unfolding isBlank
-returns c = simp (eq-eqb _ _ (c .if1 .taken))
+returns c = simp (eq-eqb _ 32 (c .if1 .taken))
 
 returns-2 : tie.Need-returns-2
 unfolding isBlank

@@ -2,6 +2,7 @@
 use borrow.Author.Needs.{needs}
 use Rattle.text.proofs.reading.with_digit.Statement.{statement}
 use Rattle.text.proofs.reading.with_digit.Tie as tie
+use mathlib.Core.Path.{refl}
 use borrow.Author.Tests.{lt-ltb, le-ltb, eq-eqb, ne-eqb}
 use Rattle.text.specs.Reader.{withDigit}
 
@@ -37,7 +38,7 @@ enum-told-4 c = search needs
 
 returns : tie.Need-returns
 unfolding withDigit
-returns c = rw (c .before .enum-told .given .1) (simp (eq-eqb _ _ (c .if1 .taken)))
+returns c = rw (c .before .enum-told .given .1, eq-eqb _ _ (c .if1 .taken)) refl
 
 returns-2 : tie.Need-returns-2
 unfolding withDigit
@@ -53,7 +54,7 @@ returns-4 c = rw (c .before .enum-told2 .given .1) (simp (ne-eqb _ _ (c .if2 .le
 
 returns-5 : tie.Need-returns-5
 unfolding withDigit
-returns-5 c = rw (c .before .before .begun .given .1) (simp (lt-ltb _ _ (c .if3 .taken)))
+returns-5 c = rw (c .before .before .begun .given .1) (simp (lt-ltb _ 100000000 (c .if3 .taken)))
 
 returns-6 : tie.Need-returns-6
 unfolding withDigit
