@@ -14,15 +14,27 @@ use borrow.Author.Tests.{ne-eqb}
 use Rattle.theory.specs.Lists.{madeOver}
 use Rattle.theory.proofs.Cases.{below-or-not}
 use Rattle.theory.proofs.ListLaws.{over-none, over-more}
+use Rattle.theory.specs.Lowest.{lowest}
 use Rattle.paper.specs.Limits.{mostCells}
 use Rattle.paper.specs.Covers.{openOf}
 use Rattle.paper.specs.Directions.{Goes, wayOf, goesBy}
 use Rattle.paper.specs.Setup.{pointed}
+use Rattle.records.specs.Places.{placeIn}
+use Rattle.records.specs.declared.answers.Place.the-variants.{At, Nowhere}
 use Rattle.survey.specs.Peeling.{Counted, waitFor}
-use Rattle.survey.specs.Slots.{wayFrom, wayAt}
+use Rattle.survey.specs.Slots.{wayFrom, wayAt, LaidOrBad}
 use Rattle.survey.proofs.DirectionLaws.{goes-at}
 use Rattle.survey.proofs.PlaceLaws.{PassedTo}
 use Rattle.survey.proofs.QueueLaws.{count-one}
+
+-- at a cell without a slot nothing is said of the arrays
+pub laid-bad : (n : ℕ) (slot way : ℕ → ℕ) (i : ℕ) (slots₀ slots ways₀ ways order : List ℕ) → At i ≡ placeIn (lowest n (λ j. eqb (slot j) 256))
+    → LaidOrBad n slot way (At i) slots₀ slots ways₀ ways order
+laid-bad n slot way i slots₀ slots ways₀ ways order found =
+    record { lowest-bad = found; slotted = λ e. absurd (never e); laid = λ e. absurd (never e); counted = λ e. absurd (never e) }
+  where
+    never : At i ≡ Nowhere → ⊥
+    never e = let z : _≡_ {A = ℕ} 0 1 = cc in omega arith
 
 module _ (width height : ℕ) (covers direction : List ℕ) (slot : ℕ → ℕ) (slots₀ ways₀ : List ℕ) where
   -- the first i cells have slots and are laid and counted, and i stands at that row and column

@@ -16,7 +16,7 @@ use Rattle.survey.proofs.QueueLaws.{count-none, count-fits}
 use Rattle.survey.proofs.SlotLaws.{slot-below}
 use Rattle.survey.proofs.SlotNumbers.{whole-entry}
 use Rattle.survey.proofs.WayArrays.{over-room}
-use Rattle.survey.proofs.WayLaying.{Laid, laid-none, laid-row, laid-down, laid-right}
+use Rattle.survey.proofs.WayLaying.{Laid, laid-bad, laid-none, laid-row, laid-down, laid-right}
 use Rattle.survey.proofs.cells.lay_cells.Statement.{statement}
 use Rattle.survey.proofs.cells.lay_cells.Tie as tie
 
@@ -78,13 +78,8 @@ same-length c =
 
 returns : tie.Need-returns Inv-loop μ-loop
 returns c =
-    let h = head (c .before) in
-    record {
-      lowest-bad = found-place _ _ _ (h .loop .inv .1 .passed) (omega arith) (eq-eqb _ _ (sym (c .before .slot .ensures) ∙ c .if1 .taken));
-      slotted = λ e. absurd (let z : _≡_ {A = ℕ} 0 1 = cc in omega arith);
-      laid = λ e. absurd (let z : _≡_ {A = ℕ} 0 1 = cc in omega arith);
-      counted = λ e. absurd (let z : _≡_ {A = ℕ} 0 1 = cc in omega arith);
-    }
+    laid-bad _ _ _ _ _ _ _ _ _
+    (found-place _ _ _ (head (c .before) .loop .inv .1 .passed) (omega arith) (eq-eqb _ _ (sym (c .before .slot .ensures) ∙ c .if1 .taken)))
 
 mul-slots : tie.Need-mul-slots Inv-loop μ-loop
 mul-slots c = search needs
