@@ -103,7 +103,7 @@ module _ (s : Setup) (more : List ℕ) where
       (λ g. absurd (clash grid (sym v ∙ no-grid g)))
 
 -- all ten tests, with the lengths of the stores and results
-module _ (s : Setup) (more : List ℕ) (st : State) (d : Day) (held : List ℕ) where
+module _ (s : Setup) (more : List ℕ) (st : State) (d : Day) (held ways₀ : List ℕ) where
   abbrev lengths : List ℕ
   lengths = setupLengths s ++ more
 
@@ -113,7 +113,7 @@ module _ (s : Setup) (more : List ℕ) (st : State) (d : Day) (held : List ℕ) 
   -- refused by some of them, where that refuses all
   refuse : (r : Outcome) (v : Verdict) (slots ways order : List ℕ) → r ≡ outcomeIn v → (r ≡ Accepted → ⊥)
       → ((why : Refusal) → v ≡ refused why → (verdict all ≡ refused why) × Blank slots ways order)
-      → Admitted s lengths st d held r slots ways order
+      → Admitted s lengths st d held ways₀ r slots ways order
   refuse r accepted slots ways order e not all-refuse = absurd (not e)
   refuse r (refused why) slots ways order e not all-refuse =
       let refuses : verdict all ≡ refused why = all-refuse why refl .0 in
@@ -124,13 +124,13 @@ module _ (s : Setup) (more : List ℕ) (st : State) (d : Day) (held : List ℕ) 
       }
 
   pub lent-decides : (r : Outcome) (slots ways order : List ℕ) → r ≡ outcomeIn (verdict (lentTests s more)) → (r ≡ Accepted → ⊥)
-      → Blank slots ways order → Admitted s lengths st d held r slots ways order
+      → Blank slots ways order → Admitted s lengths st d held ways₀ r slots ways order
   lent-decides r slots ways order e not blank =
       refuse r _ slots ways order e not (λ why v. (refused-then (dayTests s st d) (setupTests s lengths) why (lent-refuses s more why v), blank))
 
   module _ (each : oneEach (cells s) more ≡ true) where
-    pub survey-decides : (r : Outcome) (slots ways order : List ℕ) → Surveyed s held r slots ways order → (r ≡ Accepted → ⊥)
-        → Admitted s lengths st d held r slots ways order
+    pub survey-decides : (r : Outcome) (slots ways order : List ℕ) → Surveyed s held ways₀ r slots ways order → (r ≡ Accepted → ⊥)
+        → Admitted s lengths st d held ways₀ r slots ways order
     survey-decides r slots ways order surveyed not =
         refuse r _ slots ways order (surveyed .outcome) not
         (λ why v. (refused-then (dayTests s st d) (setupTests s lengths) why (more-fit s more each ∙ v), surveyed .blank why v))
@@ -140,11 +140,11 @@ module _ (s : Setup) (more : List ℕ) (st : State) (d : Day) (held : List ℕ) 
       day-decides = accepted-then (dayTests s st d) (setupTests s lengths) (more-fit s more each ∙ passed)
 
       pub day-refuses : (r : Outcome) (slots ways order : List ℕ) → r ≡ outcomeIn (verdict (dayTests s st d)) → (r ≡ Accepted → ⊥)
-          → Blank slots ways order → Admitted s lengths st d held r slots ways order
+          → Blank slots ways order → Admitted s lengths st d held ways₀ r slots ways order
       day-refuses r slots ways order e not blank = refuse r _ slots ways order e not (λ why v. (day-decides ∙ v, blank))
 
       pub day-admitted : (r : Outcome) (slots ways order : List ℕ) → r ≡ Accepted → r ≡ outcomeIn (verdict (dayTests s st d))
-          → Mapped s held slots ways order → Admitted s lengths st d held r slots ways order
+          → Mapped s held ways₀ slots ways order → Admitted s lengths st d held ways₀ r slots ways order
       day-admitted r slots ways order ok e mapped =
           record {
             outcome = e ∙ sym (ap outcomeIn day-decides);

@@ -39,8 +39,8 @@ pub record Testable (s : Setup) (soil snow slots : List ℕ) : Type 0 where
   pub soils : length soil ≡ cells s
   pub snows : length snow ≡ cells s
 
--- the verdict of all ten; where they pass, the arrays of the setup, the slots over what their array held; and where one fails blank arrays
-pub record Admitted (s : Setup) (lengths : List ℕ) (st : State) (d : Day) (held : List ℕ) (r : Outcome) (slots ways order : List ℕ) : Type 0 where
+-- the verdict of all ten; where they pass, the arrays of the setup, the slots and ways over what their arrays held; and where one fails blank arrays
+pub record Admitted (s : Setup) (lengths : List ℕ) (st : State) (d : Day) (held ways₀ : List ℕ) (r : Outcome) (slots ways order : List ℕ) : Type 0 where
   pub outcome : r ≡ outcomeIn (verdict (setupTests s lengths ++ dayTests s st d))
-  pub mapped : verdict (setupTests s lengths ++ dayTests s st d) ≡ accepted → Mapped s held slots ways order
+  pub mapped : verdict (setupTests s lengths ++ dayTests s st d) ≡ accepted → Mapped s held ways₀ slots ways order
   pub blank : (why : Refusal) → verdict (setupTests s lengths ++ dayTests s st d) ≡ refused why → Blank slots ways order

@@ -115,7 +115,7 @@ pub fn admit(
     way: &mut [u32; 4096],
     turn: &mut [u32; 4096],
 ) -> Outcome
-    ensures { λ r. ⌜ Admitted (setupOf setup (now (covers .entry)) (now (direction .entry)) (now (cover .entry)) (now (group .entry)) (now (water .entry))) (lentLengths (setupOf setup (now (covers .entry)) (now (direction .entry)) (now (cover .entry)) (now (group .entry)) (now (water .entry))) (now (soil .entry)) (now (snow .entry)) results) (stateOf (now (soil .entry)) (now (snow .entry)) memory last) (dayIn day) (now (slot .entry)) r (now (slot .exit)) (now (way .exit)) (now (turn .exit)) ⌝ }
+    ensures { λ r. ⌜ Admitted (setupOf setup (now (covers .entry)) (now (direction .entry)) (now (cover .entry)) (now (group .entry)) (now (water .entry))) (lentLengths (setupOf setup (now (covers .entry)) (now (direction .entry)) (now (cover .entry)) (now (group .entry)) (now (water .entry))) (now (soil .entry)) (now (snow .entry)) results) (stateOf (now (soil .entry)) (now (snow .entry)) memory last) (dayIn day) (now (slot .entry)) (now (way .entry)) r (now (slot .exit)) (now (way .exit)) (now (turn .exit)) ⌝ }
 {
     let lent = lent_fit(setup, soil.len(), snow.len(), results);
     let Outcome::Accepted = lent else {

@@ -38,10 +38,10 @@ use Rattle.survey.proofs.CellLaws.{slot-entry}
 use Rattle.records.proofs.LimitLaws.{DayKnown, day-known}
 use Rattle.records.proofs.OutcomeLaws.{verdict-back}
 use Rattle.survey.proofs.MapLaws.{slot-at, slots-fit, way-at, cell-in}
-use Rattle.survey.proofs.WayArrays.{ways-in, ways-next}
+use Rattle.survey.proofs.WayArrays.{ways-next}
 
-module _ (s : Setup) (st : State) (r : paper.Results) (d : Day) (before slots ways order : List ℕ)
-    (ok : days.SoundDay s st r d) (m : Mapped s before slots ways order) where
+module _ (s : Setup) (st : State) (r : paper.Results) (d : Day) (before ways₀ slots ways order : List ℕ)
+    (ok : days.SoundDay s st r d) (m : Mapped s before ways₀ slots ways order) where
   abbrev t : Today
   t = today s (st .memory) d
 
@@ -76,11 +76,11 @@ module _ (s : Setup) (st : State) (r : paper.Results) (d : Day) (before slots wa
         rejections = eqb-true _ _ (search (and-left, and-right) depth 12);
       }
 
-  ways-point : nextIn ways ≡ next s
-  ways-point = ap nextIn (m .ways-are) ∙ ways-next (cells s) (next s) (chart .few) (next-past s chart (lent .directions))
+  ways-point : nextIn (cells s) ways ≡ next s
+  ways-point = ap (nextIn (cells s)) (m .ways-are) ∙ ways-next (cells s) (next s) ways₀ (next-past s chart (lent .directions))
 
   here : (i : ℕ) → i < cells s → cellIn (s .covers) slots (s .water) ways i ≡ cell s i
-  here = cell-in s chart before slots (m .slots-are) (m .slots-sized) (lent .waters) ways (m .ways-are)
+  here = cell-in s chart before slots (m .slots-are) (m .slots-sized) (lent .waters) ways₀ ways (m .ways-are)
 
   runnable-today : runs.Runnable t (s .covers) slots ways order (s .water) (st .soil) (st .snow) (r .intercepted) (r .outflow)
       (r .evapotranspired) (r .recharged) (r .rejected)
@@ -93,7 +93,7 @@ module _ (s : Setup) (st : State) (r : paper.Results) (d : Day) (before slots wa
         potential = known .potential;
         melts = melt-most (d .maximum) (let warm = known .maximum in search (and-left, and-right));
         cells = rw n (slots-fit s chart before slots (m .slots-are) (m .slots-sized) n);
-        pointing = rw (n, m .ways-are) (ways-in (cells s) (next s) (chart .few));
+        pointing = record { most = rw n (chart .few); sized = m .ways-sized };
         ordered = rw (n, ways-point) (m .ordered);
         soils = lent .soils ∙ sym n;
         snows = lent .snows ∙ sym n;
@@ -132,7 +132,7 @@ module _ (s : Setup) (st : State) (r : paper.Results) (d : Day) (before slots wa
   gone-same : (i : ℕ) → i < cells s → goneIn (s .covers) slots ways i ≡ paper.isGone s i
   unfolding goneIn paper.isGone paper.isLeaving isOpen next pointed
   gone-same i h =
-      rw (slot-at s chart before slots (m .slots-are) (m .slots-sized) (lent .waters) i h, slot-entry s chart i h, way-at s chart before slots (m .slots-are) (m .slots-sized) (lent .waters) ways (m .ways-are) i h)
+      rw (slot-at s chart before slots (m .slots-are) (m .slots-sized) (lent .waters) i h, slot-entry s chart i h, way-at s chart before slots (m .slots-are) (m .slots-sized) (lent .waters) ways₀ ways (m .ways-are) i h)
       (ap (λ (b : Bool). isOpen s i || b) (go (goes s i) (λ j. to-inside s chart i j h)))
     where
       go : (g : Goes) → ((j : ℕ) → g ≡ to j → j < cells s) → eqb (pointed g) 4096 ≡ paper.isLeaving g

@@ -191,10 +191,10 @@ module _ (n : ℕ) (next : ℕ → ℕ) (passed : ℕ → ℕ → ℕ) (own : �
 pub record Routing (n : ℕ) (slots ways order codes owned lent : List ℕ) (t : ℕ) (wl ol : List ℕ) : Type 0 where
   pub given-all : Routable n slots ways order codes owned lent
   pub within : t ≤ n
-  pub turn : Turn n (nextIn ways) (passing codes slots ways) (λ i. getD owned i 0) (given-all .ordered .order) owned t wl ol
+  pub turn : Turn n (nextIn n ways) (passing codes slots ways) (λ i. getD owned i 0) (given-all .ordered .order) owned t wl ol
 
 module _ {n : ℕ} {slots ways order codes owned lent : List ℕ} (r : Routable n slots ways order codes owned lent) where
-  abbrev o : UpslopeFirst n (nextIn ways)
+  abbrev o : UpslopeFirst n (nextIn n ways)
   o = r .ordered .order
 
   pub little-water : (i : ℕ) → i < n → reaching n slots ways codes owned i < 2000000000
@@ -202,7 +202,7 @@ module _ {n : ℕ} {slots ways order codes owned lent : List ℕ} (r : Routable 
       omega (
         arith,
         r .little,
-        water-most n (nextIn ways) (passing codes slots ways) o
+        water-most n (nextIn n ways) (passing codes slots ways) o
             (λ j w l. passed-most (getD codes (getD slots j 0) 0) (getD ways j 4097) w (r .coded j l .most)) (λ i. getD owned i 0) i h,
       )
 
@@ -211,7 +211,7 @@ module _ {n : ℕ} {slots ways order codes owned lent : List ℕ} (r : Routable 
       record {
         given-all = r;
         within = zero-le;
-        turn = first-turn n (nextIn ways) (passing codes slots ways) (λ i. getD owned i 0) o (λ i h. refl) (r .one-each);
+        turn = first-turn n (nextIn n ways) (passing codes slots ways) (λ i. getD owned i 0) o (λ i h. refl) (r .one-each);
       }
 
 module _ {n : ℕ} {slots ways order codes owned lent : List ℕ} {t : ℕ} {wl ol : List ℕ} (s : Routing n slots ways order codes owned lent t wl ol) where
@@ -230,7 +230,7 @@ module _ {n : ℕ} {slots ways order codes owned lent : List ℕ} {t : ℕ} {wl 
     cell-inside = rw whose (g .ordered .order .placed t h)
 
     pub cell-reached : getD wl cell 0 ≡ reaching n slots ways codes owned cell
-    cell-reached = rw whose (reached n (nextIn ways) (passing codes slots ways) own (g .ordered .order) (s .turn) h)
+    cell-reached = rw whose (reached n (nextIn n ways) (passing codes slots ways) own (g .ordered .order) (s .turn) h)
 
     pub cell-little : getD wl cell 0 < 2000000000
     cell-little = rw cell-reached (little-water g cell cell-inside)
@@ -239,27 +239,27 @@ module _ {n : ℕ} {slots ways order codes owned lent : List ℕ} {t : ℕ} {wl 
       passed-on : out ≡ passing codes slots ways (g .ordered .order .who t) (reaching n slots ways codes owned (g .ordered .order .who t))
       passed-on = q ∙ ap (passing codes slots ways cell) cell-reached ∙ ap (λ (x : ℕ). passing codes slots ways x (reaching n slots ways codes owned x)) whose
 
-      pub routing-outside : n ≤ nextIn ways cell → Routing n slots ways order codes owned lent (t + 1) wl (set ol cell out)
+      pub routing-outside : n ≤ nextIn n ways cell → Routing n slots ways order codes owned lent (t + 1) wl (set ol cell out)
       routing-outside l =
           record {
             given-all = g;
             within = omega arith;
             turn =
                 rw whose
-                (turn-outside n (nextIn ways) (passing codes slots ways) own (g .ordered .order) (s .turn) h out passed-on
-                (subst (λ (x : ℕ). n ≤ nextIn ways x) whose l));
+                (turn-outside n (nextIn n ways) (passing codes slots ways) own (g .ordered .order) (s .turn) h out passed-on
+                (subst (λ (x : ℕ). n ≤ nextIn n ways x) whose l));
           }
 
-      module _ (j : ℕ) (p : nextIn ways cell ≡ j) (l : j < n) where
-        leads : nextIn ways (g .ordered .order .who t) ≡ j
-        leads = ap (nextIn ways) (sym whose) ∙ p
+      module _ (j : ℕ) (p : nextIn n ways cell ≡ j) (l : j < n) where
+        leads : nextIn n ways (g .ordered .order .who t) ≡ j
+        leads = ap (nextIn n ways) (sym whose) ∙ p
 
         pub routing-fits : getD wl j 0 + out < 2000000000
         routing-fits =
             omega (
               arith,
               little-water g j l,
-              turn-fits n (nextIn ways) (passing codes slots ways) own (g .ordered .order) (s .turn) h out passed-on j leads l,
+              turn-fits n (nextIn n ways) (passing codes slots ways) own (g .ordered .order) (s .turn) h out passed-on j leads l,
             )
 
         pub routing-inside : Routing n slots ways order codes owned lent (t + 1) (set wl j (getD wl j 0 + out)) (set ol cell out)
@@ -269,15 +269,15 @@ module _ {n : ℕ} {slots ways order codes owned lent : List ℕ} {t : ℕ} {wl 
               within = omega arith;
               turn =
                   rw whose
-                  (turn-inside n (nextIn ways) (passing codes slots ways) own (g .ordered .order) (s .turn) h out passed-on j leads l
+                  (turn-inside n (nextIn n ways) (passing codes slots ways) own (g .ordered .order) (s .turn) h out passed-on j leads l
                   (g .sized));
             }
 
   pub routing-ends : n ≤ t → Routed n slots ways codes owned wl ol
   routing-ends h =
       let last : t ≡ n = omega (arith, s .within) in
-      let end : Turn n (nextIn ways) (passing codes slots ways) own (g .ordered .order) owned n wl ol = rw last at (s .turn) in
+      let end : Turn n (nextIn n ways) (passing codes slots ways) own (g .ordered .order) owned n wl ol = rw last at (s .turn) in
       record {
-        water-of = last-water n (nextIn ways) (passing codes slots ways) own (g .ordered .order) end (g .sized);
-        outflow-of = last-outflow n (nextIn ways) (passing codes slots ways) own (g .ordered .order) end;
+        water-of = last-water n (nextIn n ways) (passing codes slots ways) own (g .ordered .order) end (g .sized);
+        outflow-of = last-outflow n (nextIn n ways) (passing codes slots ways) own (g .ordered .order) end;
       }

@@ -128,7 +128,7 @@ module _ (t : Today) (covers slots ways order available soil snow intercepted ou
         reached-at i h =
             ap (λ (l : List ℕ). getD l i 0) (routed .water-of)
             ∙ over-at n _ own 0 i h
-            ∙ water-same n (nextIn ways) (passing codes slots ways) (passedIn t covers slots ways available) (λ j. getD own j 0)
+            ∙ water-same n (nextIn n ways) (passing codes slots ways) (passedIn t covers slots ways available) (λ j. getD own j 0)
             (ownIn t covers slots ways available soil snow) (λ j w hj. passes j w hj) owns i h
 
         outflow-at : (i : ℕ) → i < n → getD passedOn i 0 ≡ passedOf (cellIn covers slots available ways i) t (getD reached i 0)

@@ -21,7 +21,7 @@ passing codes slots ways i w = passedBy (getD codes (getD slots i 0) 0) (getD wa
 
 -- the water that reaches each cell, by the paper, from the cells' own water
 abbrev pub reaching : ℕ → List ℕ → List ℕ → List ℕ → List ℕ → ℕ → ℕ
-reaching n slots ways codes owned = water n (nextIn ways) (passing codes slots ways) (λ i. getD owned i 0)
+reaching n slots ways codes owned = water n (nextIn n ways) (passing codes slots ways) (λ i. getD owned i 0)
 
 -- open water's code, or a curve number
 pub record Coded (code : ℕ) : Type 0 where
@@ -32,7 +32,7 @@ pub record Coded (code : ℕ) : Type 0 where
 pub record Routable (n : ℕ) (slots ways order codes owned lent : List ℕ) : Type 0 where
   pub slotted : (i : ℕ) → i < n → getD slots i 0 < 256
   pub pointing : WaysIn n ways
-  pub ordered : OrderedBy n (nextIn ways) order
+  pub ordered : OrderedBy n (nextIn n ways) order
   pub coded : (i : ℕ) → i < n → Coded (getD codes (getD slots i 0) 0)
   pub sized : n ≤ length owned
   pub one-each : length lent ≡ n

@@ -26,7 +26,7 @@ module _ (t : Today) (covers slots ways available : List ℕ) where
 
     -- the water that reaches each cell
     unfoldable pub reachedIn : ℕ → ℕ
-    reachedIn = water (length available) (nextIn ways) passedIn ownIn
+    reachedIn = water (length available) (nextIn (length available) ways) passedIn ownIn
 
     unfoldable pub dayIn : ℕ → Figures
     dayIn i = figuresFrom (cellIn covers slots available ways i) t (getD soil i 0) (getD snow i 0) (reachedIn i)
@@ -40,7 +40,7 @@ pub record Runnable
   pub melts : t .meltable ≤ meltLimit
   pub cells : SlotsFit covers (length available) slots available
   pub pointing : WaysIn (length available) ways
-  pub ordered : OrderedBy (length available) (nextIn ways) order
+  pub ordered : OrderedBy (length available) (nextIn (length available) ways) order
   pub soils : length soil ≡ length available
   pub snows : length snow ≡ length available
   pub interceptions : length intercepted ≡ length available

@@ -5,7 +5,6 @@ use mathlib.Core.List.{List, [], _∷_, _++_}
 use Prim.Native.Nat.{ℕ, _≤_}
 use native.Mathlib.Omega.{arith}
 use lib.Dec.{eqb}
-use lib.ListN.{replicate}
 use borrow.Author.Tests.{leb-true, eqb-true}
 use Rattle.theory.proofs.Cases.{and-left, and-right, and-second}
 use Rattle.paper.specs.Setup.{Setup, cells, gridFits}
@@ -46,9 +45,9 @@ module _ (s : Setup) where
   unfolding gridFits
   few-cells g = leb-true _ _ (search (and-left, and-right))
 
-  pub surveyable : (ways : List ℕ) → ways ≡ replicate 4096 4097 → gridFits s ≡ true → oneEach (cells s) (setupLengths s) ≡ true → Surveyable s ways
+  pub surveyable : gridFits s ≡ true → oneEach (cells s) (setupLengths s) ≡ true → Surveyable s
   unfolding gridFits setupLengths oneEach
-  surveyable ways none g e =
+  surveyable g e =
       record {
         wide = leb-true _ _ (search (and-left, and-right));
         high = leb-true _ _ (search (and-left, and-right));
@@ -57,13 +56,12 @@ module _ (s : Setup) where
         covers = eqb-true _ _ (search (and-left, and-right));
         groups = eqb-true _ _ (search (and-left, and-right));
         waters = eqb-true _ _ (search (and-left, and-right));
-        no-ways = none;
       }
 
   -- a setup refused leaves the arrays empty
-  pub refuse-survey : (before : List ℕ) (r : Outcome) (why : Refusal) (slots ways order : List ℕ) → checkOf s ≡ refused why → r ≡ refusedAs why → Blank slots ways order
-      → Surveyed s before r slots ways order
-  refuse-survey before r why slots ways order v e blank =
+  pub refuse-survey : (before ways₀ : List ℕ) (r : Outcome) (why : Refusal) (slots ways order : List ℕ) → checkOf s ≡ refused why → r ≡ refusedAs why → Blank slots ways order
+      → Surveyed s before ways₀ r slots ways order
+  refuse-survey before ways₀ r why slots ways order v e blank =
       record {
         outcome = e ∙ sym (ap outcomeIn v);
         mapped = λ a. absurd (let z : _≡_ {A = ℕ} 0 1 = cc in omega arith);
@@ -75,16 +73,16 @@ module _ (s : Setup) where
     unfolding checkOf
     check-is = on-the-map (setupLengths s) grid each
 
-    pub chart-refuses : (before : List ℕ) (r : Outcome) (slots ways order : List ℕ) → r ≡ outcomeIn (verdict (mapTests s)) → (r ≡ Accepted → ⊥) → Blank slots ways order
-        → Surveyed s before r slots ways order
-    chart-refuses before r slots ways order e not blank = go (verdict (mapTests s)) refl
+    pub chart-refuses : (before ways₀ : List ℕ) (r : Outcome) (slots ways order : List ℕ) → r ≡ outcomeIn (verdict (mapTests s)) → (r ≡ Accepted → ⊥) → Blank slots ways order
+        → Surveyed s before ways₀ r slots ways order
+    chart-refuses before ways₀ r slots ways order e not blank = go (verdict (mapTests s)) refl
       where
-        go : (v : Verdict) → verdict (mapTests s) ≡ v → Surveyed s before r slots ways order
+        go : (v : Verdict) → verdict (mapTests s) ≡ v → Surveyed s before ways₀ r slots ways order
         go accepted q = absurd (not (e ∙ ap outcomeIn q))
-        go (refused why) q = refuse-survey before r why slots ways order (check-is ∙ q) (e ∙ ap outcomeIn q) blank
+        go (refused why) q = refuse-survey before ways₀ r why slots ways order (check-is ∙ q) (e ∙ ap outcomeIn q) blank
 
-    pub chart-passes : (before slots ways order : List ℕ) → Chart s before Accepted slots ways order → Surveyed s before Accepted slots ways order
-    chart-passes before slots ways order chart =
+    pub chart-passes : (before ways₀ slots ways order : List ℕ) → Chart s before ways₀ Accepted slots ways order → Surveyed s before ways₀ Accepted slots ways order
+    chart-passes before ways₀ slots ways order chart =
         record {
           outcome = chart .outcome ∙ sym (ap outcomeIn check-is);
           mapped = λ a. chart .mapped (sym check-is ∙ a);

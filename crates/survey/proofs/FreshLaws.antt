@@ -67,7 +67,7 @@ module _ (s : Setup) (soil snow : List ℕ) where
         go (refused why) q =
             refused-fresh why o called memory last (more-fit s _ each ∙ q) same (e ∙ ap outcomeIn q) dry never
 
-    module _ (v : checkOf s ≡ accepted) (lent slots ways order : List ℕ) (m : Mapped s lent slots ways order) where
+    module _ (v : checkOf s ≡ accepted) (lent ways₀ slots ways order : List ℕ) (m : Mapped s lent ways₀ slots ways order) where
       chart : Charted s
       chart = sound-setup s v .charted
 

@@ -3,7 +3,7 @@ use mathlib.Core.Path.{_≡_, sym}
 use mathlib.Core.Bool.{true}
 use mathlib.Core.List.{List, [], append-nil}
 use Prim.Native.Nat.{ℕ, _<_}
-use lib.ListN.{length, getD, replicate}
+use lib.ListN.{length, getD}
 use borrow.Author.Tests.{leb-true, eqb-true}
 use Rattle.theory.proofs.Cases.{and-left, and-right}
 use Rattle.theory.specs.Lists.{madeOver}
@@ -41,9 +41,9 @@ module _ (s : Setup) (ok : Charted s) (lent slots : List ℕ) (slots-are : slots
         watered = λ i h. leb-true _ _ (let fits : cellFits s i ≡ true = ok .celled i h in search (and-left, and-right));
       }
 
-  module _ (ways : List ℕ) (ways-are : ways ≡ madeOver (cells s) (next s) (replicate 4096 4097)) where
+  module _ (ways₀ ways : List ℕ) (ways-are : ways ≡ madeOver (cells s) (next s) ways₀) where
     pub way-at : (i : ℕ) → i < cells s → getD ways i 4097 ≡ next s i
-    way-at i h = rw (ways-are) (over-at (cells s) (next s) (replicate 4096 4097) 4097 i h)
+    way-at i h = rw (ways-are) (over-at (cells s) (next s) ways₀ 4097 i h)
 
     pub cell-in : (i : ℕ) → i < cells s → cellIn (s .covers) slots (s .water) ways i ≡ cell s i
     cell-in i h = rw (slot-at i h, way-at i h) (sym (cell-is s ok i h))

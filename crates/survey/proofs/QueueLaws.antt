@@ -9,7 +9,7 @@ use native.Mathlib.Nat.{not-suc-le-zero, le-of-suc-le-suc, le-refl, le-trans, le
 use native.Mathlib.Numerals.{add-one}
 use native.Mathlib.Omega.{arith}
 use lib.Dec.{eqb, leb, ltb}
-use lib.ListN.{length, getD, set, length-set, List·getD-eq-default}
+use lib.ListN.{length, getD, set, length-set}
 use lib.Seq.{getD-set-same, getD-set-other}
 use borrow.Author.Tests.{eqb-true, eqb-false, lt-ltb, le-ltb, le-leb, lt-leb, ltb-false}
 use Rattle.theory.specs.Lists.{madeOver}
@@ -35,16 +35,13 @@ in-range (x ∷ l) zero d e h = refl
 in-range (x ∷ l) (suc i) d e h = in-range l i d e (le-of-suc-le-suc h)
 
 module _ {n : ℕ} {ways : List ℕ} (w : WaysIn n ways) where
-  pub way-next : (i : ℕ) → i < 4096 → getD ways i 0 ≡ nextIn ways i
-  way-next i h = in-range ways i 0 4097 (omega (arith, w .sized))
+  pub way-next : (i : ℕ) → i < n → getD ways i 0 ≡ nextIn n ways i
+  unfolding nextIn
+  way-next i h = rw (lt-ltb i n h) (in-range ways i 0 4097 (omega (arith, w .most, w .sized)))
 
-  pub one-way : OneWay n (nextIn ways)
-  one-way =
-      record {
-        outside = λ i h.
-            below-or-not i 4096 (λ l. subst (λ (x : ℕ). n ≤ x) (way-next i l) (w .outside i h l))
-            (λ l. omega (arith, w .most, List·getD-eq-default ways 4097 {n = i} (omega (arith, w .sized))));
-      }
+  pub one-way : OneWay n (nextIn n ways)
+  unfolding nextIn
+  one-way = record { outside = λ i h. rw (le-ltb i n h) (omega (arith, w .most)) }
 
 module _ {n : ℕ} {next : ℕ → ℕ} where
   pub count-none : (l : List ℕ) → length l ≡ 4096 → n ≤ 4096 → Counted n next 0 (madeOver n (λ i. 0) l)

@@ -5,7 +5,7 @@ use mathlib.Core.Bool.{true, false, not}
 use mathlib.Core.List.{List, [], _∷_, _++_}
 use Prim.Native.Nat.{ℕ, _*_, _<_}
 use native.Mathlib.Omega.{arith}
-use lib.ListN.{length, drop, replicate, length-replicate}
+use lib.ListN.{length, drop}
 use borrow.Author.Tests.{not-false}
 use Rattle.theory.specs.Lists.{madeOver}
 use Rattle.theory.specs.Lowest.{Found, at, nowhere, lowest}
@@ -27,7 +27,7 @@ use Rattle.records.specs.declared.answers.Outcome.the-variants.{Accepted}
 use Rattle.paper.proofs.SetupLaws.{Charted, next-past}
 use Rattle.survey.proofs.SlotLaws.{index-fits, index-entered, slot-test, slot-is}
 use Rattle.survey.proofs.CellLaws.{way-is}
-use Rattle.survey.proofs.WayArrays.{ways-in, ways-next}
+use Rattle.survey.proofs.WayArrays.{ways-next}
 use Rattle.survey.proofs.QueueLaws.{count-by}
 use Rattle.records.specs.declared.answers.Outcome.{Outcome}
 use Rattle.survey.specs.Covers.{EntriesFit, Indexed}
@@ -97,19 +97,19 @@ module _ (s : Setup) where
           all-pass e = cells-pass ∙ pass-many (single (seasonFits s) season ∷ []) ringTest free ∙ pass-single [] _ season e
 
   -- a refusal, in the code's own words
-  pub refuse : (lent : List ℕ) (r : Outcome) (why : Refusal) (slots ways order : List ℕ) → verdict (mapTests s) ≡ refused why → r ≡ refusedAs why
-      → Chart s lent r slots ways order
-  refuse lent r why slots ways order v e =
+  pub refuse : (lent ways₀ : List ℕ) (r : Outcome) (why : Refusal) (slots ways order : List ℕ) → verdict (mapTests s) ≡ refused why → r ≡ refusedAs why
+      → Chart s lent ways₀ r slots ways order
+  refuse lent ways₀ r why slots ways order v e =
       record {
         outcome = e ∙ sym (ap outcomeIn v);
         mapped = λ a. absurd (let z : _≡_ {A = ℕ} 0 1 = cc in omega arith);
       }
 
 -- the arrays, stage by stage
-module _ (s : Setup) (lent ways₀ : List ℕ) (pre : Surveyable s ways₀) (size : sizeFits (s .covers) ≡ true)
+module _ (s : Setup) (lent ways₀ : List ℕ) (pre : Surveyable s) (size : sizeFits (s .covers) ≡ true)
     (none : lowest (entries (s .covers)) (λ k. not (entryFits (s .covers) k)) ≡ nowhere)
     (index : List ℕ) (known : Indexed (s .covers) (entries (s .covers)) index)
-    (sized : length lent ≡ 4096) where
+    (slots-sized : length lent ≡ 4096) (ways-sized : length ways₀ ≡ 4096) where
   fit : EntriesFit (s .covers)
   fit = entries-fit s size none
 
@@ -131,8 +131,8 @@ module _ (s : Setup) (lent ways₀ : List ℕ) (pre : Surveyable s ways₀) (siz
         coded = pre .covers;
         grouped = pre .groups;
         watered = pre .waters;
-        slots-sized = sized;
-        ways-sized = ap length (pre .no-ways) ∙ length-replicate {A = ℕ} 4096 4097;
+        slots-sized = slots-sized;
+        ways-sized = ways-sized;
       }
 
   module _ (r : Place) (slots ways counts : List ℕ) (lb : LaidOrBad (s .width * s .height) slot way r lent slots ways₀ ways counts) where
@@ -165,30 +165,31 @@ module _ (s : Setup) (lent ways₀ : List ℕ) (pre : Surveyable s ways₀) (siz
       unfolding madeOver cells
       slots-are = lb .slotted through ∙ ap (λ (l : List ℕ). l ++ drop (cells s) lent) (made-cong (cells s) slot (slotOf s) slot-at)
 
-      slots-sized : length slots ≡ 4096
-      slots-sized = ap length slots-are ∙ over-length (cells s) (slotOf s) lent (omega (arith, sized, pre .few)) ∙ sized
+      slots-whole : length slots ≡ 4096
+      slots-whole = ap length slots-are ∙ over-length (cells s) (slotOf s) lent (omega (arith, slots-sized, pre .few)) ∙ slots-sized
 
-      ways-are : ways ≡ madeOver (cells s) (next s) (replicate 4096 4097)
+      ways-are : ways ≡ madeOver (cells s) (next s) ways₀
       unfolding madeOver cells
       ways-are =
           lb .laid through
-          ∙ rw (pre .no-ways)
-          (ap (λ (l : List ℕ). l ++ drop (cells s) (replicate 4096 4097))
-          (made-cong (cells s) way (next s) (λ i h. sym (way-is s charted i h slot (slot-at i h)))))
+          ∙ ap (λ (l : List ℕ). l ++ drop (cells s) ways₀) (made-cong (cells s) way (next s) (λ i h. sym (way-is s charted i h slot (slot-at i h))))
 
-      ways-point : nextIn ways ≡ next s
-      ways-point = ap nextIn ways-are ∙ ways-next (cells s) (next s) (pre .few) (next-past s charted (pre .directions))
+      ways-whole : length ways ≡ 4096
+      ways-whole = ap length ways-are ∙ over-length (cells s) (next s) ways₀ (omega (arith, ways-sized, pre .few)) ∙ ways-sized
 
-      counts-are : Counted (cells s) (nextIn ways) (cells s) counts
+      ways-point : nextIn (cells s) ways ≡ next s
+      ways-point = ap (nextIn (cells s)) ways-are ∙ ways-next (cells s) (next s) ways₀ (next-past s charted (pre .directions))
+
+      counts-are : Counted (cells s) (nextIn (cells s) ways) (cells s) counts
       unfolding cells
       counts-are = rw ways-point (count-by (lb .counted through) (next s) (λ i h. way-is s charted i h slot (slot-at i h)))
 
-      pub order-ask : WaysIn (length (s .direction)) ways × Counted (length (s .direction)) (nextIn ways) (length (s .direction)) counts
-      order-ask = rw (pre .directions) (rw ways-are (ways-in (cells s) (next s) (pre .few)), counts-are)
+      pub order-ask : WaysIn (length (s .direction)) ways × Counted (length (s .direction)) (nextIn (length (s .direction)) ways) (length (s .direction)) counts
+      order-ask = rw (pre .directions) (record { most = pre .few; sized = ways-whole }, counts-are)
 
-      module _ (found : Place) (order : List ℕ) (o : OrderOrRing (length (s .direction)) (nextIn ways) found order) where
+      module _ (found : Place) (order : List ℕ) (o : OrderOrRing (length (s .direction)) (nextIn (length (s .direction)) ways) found order) where
         ring-is : found ≡ placeIn (lowest (cells s) (onRing (cells s) (next s)))
-        ring-is = rw (ways-point, pre .directions) at (o .ring)
+        ring-is = rw (pre .directions, ways-point) at (o .ring)
 
         pub ring-found : (i : ℕ) → found ≡ At i → lowest (cells s) (onRing (cells s) (next s)) ≡ at i
         ring-found i e = found-at _ i (sym e ∙ ring-is)
@@ -198,11 +199,11 @@ module _ (s : Setup) (lent ways₀ : List ℕ) (pre : Surveyable s ways₀) (siz
           no-ring = found-no _ (sym straight ∙ ring-is)
 
           ordered-by : OrderedBy (cells s) (next s) order
-          ordered-by = rw (ways-point, pre .directions) at (o .ordered straight)
+          ordered-by = rw (pre .directions, ways-point) at (o .ordered straight)
 
-          pub surveyed : seasonFits s ≡ true → Chart s lent Accepted slots ways order
+          pub surveyed : seasonFits s ≡ true → Chart s lent ways₀ Accepted slots ways order
           surveyed e =
               record {
                 outcome = sym (ap outcomeIn (all-pass s size none cells-fit no-ring e));
-                mapped = λ a. record { slots-are = slots-are; slots-sized = slots-sized; ways-are = ways-are; ordered = ordered-by };
+                mapped = λ a. record { slots-are = slots-are; slots-sized = slots-whole; ways-are = ways-are; ways-sized = ways-whole; ordered = ordered-by };
               }

@@ -3,7 +3,7 @@ use mathlib.Core.Path.{_≡_}
 use mathlib.Core.Bool.{cond}
 use mathlib.Core.List.{List}
 use Prim.Native.Nat.{ℕ, _/_, _%_, _≤_, _<_}
-use lib.Dec.{eqb}
+use lib.Dec.{eqb, ltb}
 use lib.ListN.{length, getD}
 use Rattle.theory.specs.Ways.{UpslopeFirst, onRing}
 use Rattle.theory.specs.Lowest.{lowest}
@@ -25,15 +25,14 @@ unfoldable pub goesFrom : ℕ → ℕ → ℕ → ℕ → Way → Goes
 goesFrom width height row column (toward down right) = cellAt width (stepped height down row) (stepped width right column)
 goesFrom width height row column closed = stays
 
--- where each cell points: the list's entries, and outside from its end on
-abbrev pub nextIn : List ℕ → ℕ → ℕ
-nextIn ways i = getD ways i 4097
+-- where each of n cells points, by the list's first n entries; past the cells nowhere
+unfoldable pub nextIn : ℕ → List ℕ → ℕ → ℕ
+nextIn n ways i = cond (ltb i n) (getD ways i 4097) 4097
 
 -- an array of 4,096 ways, of which the first n are cells'
 pub record WaysIn (n : ℕ) (ways : List ℕ) : Type 0 where
   pub most : n ≤ 4096
   pub sized : length ways ≡ 4096
-  pub outside : (i : ℕ) → n ≤ i → i < 4096 → n ≤ getD ways i 0
 
 -- the list has an order, upslope first, in its first n places
 pub record OrderedBy (n : ℕ) (next : ℕ → ℕ) (l : List ℕ) : Type 0 where

@@ -19,8 +19,8 @@ pub record Blank (slots ways order : List ℕ) : Type 0 where
   pub no-ways : ways ≡ replicate 4096 4097
   pub no-order : order ≡ replicate 4096 0
 
--- a grid within its limits, with one entry a cell, and no ways yet
-pub record Surveyable (s : Setup) (ways : List ℕ) : Type 0 where
+-- a grid within its limits, with one entry a cell
+pub record Surveyable (s : Setup) : Type 0 where
   pub wide : 1 ≤ s .width
   pub high : 1 ≤ s .height
   pub few : cells s ≤ mostCells
@@ -28,22 +28,22 @@ pub record Surveyable (s : Setup) (ways : List ℕ) : Type 0 where
   pub covers : length (s .cover) ≡ cells s
   pub groups : length (s .group) ≡ cells s
   pub waters : length (s .water) ≡ cells s
-  pub no-ways : ways ≡ replicate 4096 4097
 
--- the arrays of a setup that passed: past the cells the slots are as they were lent
-pub record Mapped (s : Setup) (lent slots ways order : List ℕ) : Type 0 where
+-- the arrays of a setup that passed: past the cells the slots and the ways are as they were lent
+pub record Mapped (s : Setup) (lent ways₀ slots ways order : List ℕ) : Type 0 where
   pub slots-are : slots ≡ madeOver (cells s) (slotOf s) lent
   pub slots-sized : length slots ≡ 4096
-  pub ways-are : ways ≡ madeOver (cells s) (next s) (replicate 4096 4097)
+  pub ways-are : ways ≡ madeOver (cells s) (next s) ways₀
+  pub ways-sized : length ways ≡ 4096
   pub ordered : OrderedBy (cells s) (next s) order
 
 -- after tests 3 to 6
-pub record Chart (s : Setup) (lent : List ℕ) (r : Outcome) (slots ways order : List ℕ) : Type 0 where
+pub record Chart (s : Setup) (lent ways₀ : List ℕ) (r : Outcome) (slots ways order : List ℕ) : Type 0 where
   pub outcome : r ≡ outcomeIn (verdict (mapTests s))
-  pub mapped : verdict (mapTests s) ≡ accepted → Mapped s lent slots ways order
+  pub mapped : verdict (mapTests s) ≡ accepted → Mapped s lent ways₀ slots ways order
 
 -- after tests 1 to 6: refused, the arrays hold nothing
-pub record Surveyed (s : Setup) (lent : List ℕ) (r : Outcome) (slots ways order : List ℕ) : Type 0 where
+pub record Surveyed (s : Setup) (lent ways₀ : List ℕ) (r : Outcome) (slots ways order : List ℕ) : Type 0 where
   pub outcome : r ≡ outcomeIn (checkOf s)
-  pub mapped : checkOf s ≡ accepted → Mapped s lent slots ways order
+  pub mapped : checkOf s ≡ accepted → Mapped s lent ways₀ slots ways order
   pub blank : (why : Refusal) → checkOf s ≡ refused why → Blank slots ways order

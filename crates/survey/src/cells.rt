@@ -58,7 +58,7 @@ pub(crate) fn lay_cells(
     group: &[u32],
     water: &[u32],
     slots: &mut [u32],
-    ways: &mut [u32; 4096],
+    ways: &mut [u32],
     order: &mut [u32; 4096],
 ) -> Place
     requires { ⌜ Layable width height (now index) (now covers) (now direction) (now cover) (now group) (now water) (now slots) (now ways) ⌝ }

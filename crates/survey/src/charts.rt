@@ -26,8 +26,8 @@ fn chart(
     way: &mut [u32; 4096],
     turn: &mut [u32; 4096],
 ) -> Outcome
-    requires { ⌜ Surveyable (setupOf setup (now covers) (now direction) (now cover) (now group) (now water)) (now way) ⌝ }
-    ensures { λ r. ⌜ Chart (setupOf setup (now (covers .entry)) (now (direction .entry)) (now (cover .entry)) (now (group .entry)) (now (water .entry))) (now (slot .entry)) r (now (slot .exit)) (now (way .exit)) (now (turn .exit)) ⌝ }
+    requires { ⌜ Surveyable (setupOf setup (now covers) (now direction) (now cover) (now group) (now water)) ⌝ }
+    ensures { λ r. ⌜ Chart (setupOf setup (now (covers .entry)) (now (direction .entry)) (now (cover .entry)) (now (group .entry)) (now (water .entry))) (now (slot .entry)) (now (way .entry)) r (now (slot .exit)) (now (way .exit)) (now (turn .exit)) ⌝ }
 {
     if !size_fits(covers) {
         return Outcome::CoverTable(0);
@@ -73,7 +73,7 @@ pub fn clear(slot: &mut [u32; 4096], way: &mut [u32; 4096], turn: &mut [u32; 409
     *turn = [0u32; 4096];
 }
 
-// Tests 1 to 6. The cells' slots and turns are written over whatever the arrays held; past the cells every way leads nowhere. Where a test fails,
+// Tests 1 to 6. The cells' slots, ways and turns are written over whatever the arrays held, which no one reads past the cells. Where a test fails,
 // the arrays are wiped.
 pub fn survey(
     setup: Setup,
@@ -86,7 +86,7 @@ pub fn survey(
     way: &mut [u32; 4096],
     turn: &mut [u32; 4096],
 ) -> Outcome
-    ensures { λ r. ⌜ Surveyed (setupOf setup (now (covers .entry)) (now (direction .entry)) (now (cover .entry)) (now (group .entry)) (now (water .entry))) (now (slot .entry)) r (now (slot .exit)) (now (way .exit)) (now (turn .exit)) ⌝ }
+    ensures { λ r. ⌜ Surveyed (setupOf setup (now (covers .entry)) (now (direction .entry)) (now (cover .entry)) (now (group .entry)) (now (water .entry))) (now (slot .entry)) (now (way .entry)) r (now (slot .exit)) (now (way .exit)) (now (turn .exit)) ⌝ }
 {
     if !grid_fits(setup) {
         clear(slot, way, turn);
@@ -102,7 +102,6 @@ pub fn survey(
         clear(slot, way, turn);
         return Outcome::LentSize;
     }
-    *way = [4097u32; 4096];
     let outcome = chart(
         setup,
         covers,

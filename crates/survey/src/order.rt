@@ -59,8 +59,8 @@ fn sources(n: usize, order: &mut [u32; 4096]) -> usize
 // one joins the queue and is taken at once, out of a local: through the queue, each step would wait for the last one's stores. Its own way is
 // read before the stores: entry j of both arrays can have the same place in a page, and a read just after such a store waits for it.
 fn peel(n: usize, ways: &[u32; 4096], order: &mut [u32; 4096], sources: usize) -> usize
-    requires { ⌜ (WaysIn n (now ways)) × (PeeledIn n (nextIn (now ways)) 0 sources sources (now order)) ⌝ }
-    ensures { λ r. ⌜ PeeledIn n (nextIn (now (ways .entry))) sources sources r (now (order .exit)) ⌝ }
+    requires { ⌜ (WaysIn n (now ways)) × (PeeledIn n (nextIn n (now ways)) 0 sources sources (now order)) ⌝ }
+    ensures { λ r. ⌜ PeeledIn n (nextIn n (now (ways .entry))) sources sources r (now (order .exit)) ⌝ }
 {
     let mut tail = sources;
     let mut head = 0;
@@ -104,8 +104,8 @@ fn leftover(n: usize, order: &[u32; 4096]) -> Place
 
 // The array holds how many cells lead to each, and then the order.
 pub(crate) fn order(n: usize, ways: &[u32; 4096], order: &mut [u32; 4096]) -> Place
-    requires { ⌜ (WaysIn n (now ways)) × (Counted n (nextIn (now ways)) n (now order)) ⌝ }
-    ensures { λ r. ⌜ OrderOrRing n (nextIn (now (ways .entry))) r (now (order .exit)) ⌝ }
+    requires { ⌜ (WaysIn n (now ways)) × (Counted n (nextIn n (now ways)) n (now order)) ⌝ }
+    ensures { λ r. ⌜ OrderOrRing n (nextIn n (now (ways .entry))) r (now (order .exit)) ⌝ }
 {
     let first = sources(n, order);
     let taken = peel(n, ways, order, first);

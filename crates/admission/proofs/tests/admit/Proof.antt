@@ -32,7 +32,7 @@ returns c =
     let more = dayLengths (length (a .soil .now)) (length (a .snow .now)) (a .results) in
     let st = stateOf (a .soil .now) (a .snow .now) (a .memory) (a .last) in
     let d = dayIn (a .day) in
-    lent-decides s more st d (a .slot .now) _ _ _ _ (at-lent-fit .lent-fit .ensures)
+    lent-decides s more st d (a .slot .now) (a .way .now) _ _ _ _ (at-lent-fit .lent-fit .ensures)
     (λ e. miss (1 ∷ 2 ∷ 3 ∷ 4 ∷ 5 ∷ 6 ∷ 7 ∷ 8 ∷ 9 ∷ 10 ∷ []) 0 tt (rw e at (at-match .match .keys2))) (c .clear .ensures)
 
 survey-requires : tie.Need-survey-requires
@@ -53,7 +53,7 @@ returns-2 c =
     let st = stateOf (a .soil .now) (a .snow .now) (a .memory) (a .last) in
     let d = dayIn (a .day) in
     let each = lent-passes s more (accepted-back _ (sym (at-enum-told .enum-told .given .1) ∙ at-lent-fit .lent-fit .ensures)) in
-    survey-decides s more st d (a .slot .now) each _ _ _ _ (at-survey .survey .ensures)
+    survey-decides s more st d (a .slot .now) (a .way .now) each _ _ _ _ (at-survey .survey .ensures)
     (λ e. miss (1 ∷ 2 ∷ 3 ∷ 4 ∷ 5 ∷ 6 ∷ 7 ∷ 8 ∷ 9 ∷ 10 ∷ []) 0 tt (rw e at (c .match2 .keys2)))
 
 day-tests-requires : tie.Need-day-tests-requires
@@ -99,7 +99,7 @@ returns-3 c =
     let d = dayIn (a .day) in
     let each = lent-passes s more (accepted-back _ (sym (at-enum-told .enum-told .given .1) ∙ at-lent-fit .lent-fit .ensures)) in
     let passed = accepted-back _ (sym (at-enum-told2 .enum-told2 .given .1) ∙ at-survey .survey .ensures .outcome) in
-    day-refuses s more st d (a .slot .now) each passed _ _ _ _ (at-day-tests .day-tests .ensures)
+    day-refuses s more st d (a .slot .now) (a .way .now) each passed _ _ _ _ (at-day-tests .day-tests .ensures)
     (λ e. miss (1 ∷ 2 ∷ 3 ∷ 4 ∷ 5 ∷ 6 ∷ 7 ∷ 8 ∷ 9 ∷ 10 ∷ []) 0 tt (rw e at (at-match3 .match3 .keys2))) (c .clear2 .ensures)
 
 returns-4 : tie.Need-returns-4
@@ -117,7 +117,7 @@ returns-4 c =
     let d = dayIn (a .day) in
     let each = lent-passes s more (accepted-back _ (sym (at-enum-told .enum-told .given .1) ∙ at-lent-fit .lent-fit .ensures)) in
     let passed = accepted-back _ (sym (at-enum-told2 .enum-told2 .given .1) ∙ at-survey .survey .ensures .outcome) in
-    day-admitted s more st d (a .slot .now) each passed _ _ _ _ (c .enum-told3 .given .1) (at-day-tests .day-tests .ensures) (at-survey .survey .ensures .mapped passed)
+    day-admitted s more st d (a .slot .now) (a .way .now) each passed _ _ _ _ (c .enum-told3 .given .1) (at-day-tests .day-tests .ensures) (at-survey .survey .ensures .mapped passed)
 
 pub admit-spec : {M : Type 1} → statement M
 admit-spec =

@@ -60,7 +60,7 @@ run-requires c κs =
     let d = dayIn (a .day) in
     let passed = accepted-back _ (sym (at-enum-told .enum-told .given .1) ∙ at-admit .admit .ensures .outcome) in
     let ok = sound-day s st results d passed in
-    runnable s st results d _ _ _ _ ok (at-admit .admit .ensures .mapped passed) _ (at-today-of .today-of .ensures ∙ today-fits (gridOf (a .setup)) _ _ (ok .day) (ok .memory))
+    runnable s st results d _ _ _ _ _ ok (at-admit .admit .ensures .mapped passed) _ (at-today-of .today-of .ensures ∙ today-fits (gridOf (a .setup)) _ _ (ok .day) (ok .memory))
 
 next-requires : tie.Need-next-requires
 next-requires c κs = search needs
@@ -100,7 +100,7 @@ returns-2 c =
     let d = dayIn (a .day) in
     let passed = accepted-back _ (sym (at-enum-told .enum-told .given .1) ∙ at-admit .admit .ensures .outcome) in
     let ok = sound-day s st results d passed in
-    accepted-answer s st results d _ _ _ _ ok (at-admit .admit .ensures .mapped passed) passed _ (at-enum-told .enum-told .given .1) _ (c .next .ensures)
+    accepted-answer s st results d _ _ _ _ _ ok (at-admit .admit .ensures .mapped passed) passed _ (at-enum-told .enum-told .given .1) _ (c .next .ensures)
     _ (at-today-of .today-of .ensures ∙ today-fits (gridOf (a .setup)) _ _ (ok .day) (ok .memory)) _ _ _ _ _ _ _ _ (at-run .run .ensures)
 
 pub day-spec : {M : Type 1} → statement M

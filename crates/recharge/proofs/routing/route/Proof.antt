@@ -57,10 +57,10 @@ out-is w =
     (any-default (starting p .args .ways .now) (p .place .result) 0 4097 (rw (starting p .pre .pointing .sized) (in-array p))) (w .passed .ensures)
 
 -- where it points
-way : (w : tie.After-place3 Inv-loop μ-loop) → nextIn (starting (came (w .before)) .args .ways .now) (came (w .before) .place .result) ≡ w .place3 .result
+way : (w : tie.After-place3 Inv-loop μ-loop) → nextIn (starting (came (w .before)) .args .n) (starting (came (w .before)) .args .ways .now) (came (w .before) .place .result) ≡ w .place3 .result
 way w =
     let p = came (w .before) in
-    sym (way-next (starting p .pre .pointing) (p .place .result) (in-array p)) ∙ sym (w .place3 .ensures)
+    sym (way-next (starting p .pre .pointing) (p .place .result) (below p)) ∙ sym (w .place3 .ensures)
 
 -- and the cell that it points to
 room : (c : tie.Then1 Inv-loop μ-loop) → c .before .place3 .result < length (looping (came (c .before .before)) .loop .water)

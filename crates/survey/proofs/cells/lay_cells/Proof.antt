@@ -30,7 +30,7 @@ abbrev μ-loop : tie.MeasureT-loop
 
 -- the places: the start, the head of the loop, and where the cell has its slot and its way
 abbrev start : tie.At-loop Inv-loop μ-loop → tie.Start Inv-loop μ-loop
-start h = h .before .before .before .before .before .before .before .before .before
+start h = h .before .before .before .before .before .before .before .before .before .before
 
 abbrev head : tie.After-slot Inv-loop μ-loop → tie.At-loop Inv-loop μ-loop
 head c = c .before .before .before .before .before
@@ -39,11 +39,11 @@ abbrev fitted : tie.After-cell-way Inv-loop μ-loop → tie.Else1 Inv-loop μ-lo
 fitted c = c .before .before .before .before
 
 none-waiting-requires : tie.Need-none-waiting-requires Inv-loop μ-loop
-none-waiting-requires c κs = let p = c .before .before .before .before .before .before .before .pre in rw (p .coded, c .none-waiting-arg .given .0 .1) (p .few)
+none-waiting-requires c κs = let p = c .before .before .before .before .before .before .before .before .pre in rw (p .coded, c .none-waiting-arg .given .0 .1) (p .few)
 
 loop-holds : tie.Need-loop-holds Inv-loop μ-loop
 loop-holds c =
-    let s = c .before .before .before .before .before .before .before .before in (
+    let s = c .before .before .before .before .before .before .before .before .before in (
       s .pre .coded,
       laid-none _ _ _ _ _ _ _ _ (s .pre .wide)
           (rw (c .none-waiting .ensures, s .pre .coded) (count-none _ (c .before .none-waiting-arg .given .0 .1) (s .pre .few))),
@@ -75,6 +75,12 @@ same-length c =
     let h = head (c .before) in
     let p = start h .pre in
     ap length (h .loop .inv .1 .slotted) ∙ over-length _ _ _ (omega arith)
+
+same-length-2 : tie.Need-same-length-2 Inv-loop μ-loop
+same-length-2 c =
+    let h = head (c .before) in
+    let p = start h .pre in
+    ap length (h .loop .inv .1 .laid) ∙ over-length _ _ _ (omega arith)
 
 returns : tie.Need-returns Inv-loop μ-loop
 returns c =
@@ -127,8 +133,11 @@ cell-way-requires c κs =
 mul-ways : tie.Need-mul-ways Inv-loop μ-loop
 mul-ways c = search needs
 
-element-write-ways : tie.Need-element-write-ways Inv-loop μ-loop
-element-write-ways c = let p = start (head (fitted c .before)) .pre in omega arith
+slice-write-ways : tie.Need-slice-write-ways Inv-loop μ-loop
+slice-write-ways c =
+    let h = head (fitted c .before) in
+    let p = start h .pre in
+    over-room _ _ _ _ (h .loop .inv .1 .laid) (omega arith)
 
 wait-for-requires : tie.Need-wait-for-requires Inv-loop μ-loop
 wait-for-requires c κs =
@@ -187,10 +196,15 @@ loop-again c =
           (c .if2 .came),
     )
 
-same-length-2 : tie.Need-same-length-2 Inv-loop μ-loop
-same-length-2 c =
+same-length-3 : tie.Need-same-length-3 Inv-loop μ-loop
+same-length-3 c =
     let p = start (c .before) .pre in
     ap length (c .before .loop .inv .1 .slotted) ∙ over-length _ _ _ (omega arith)
+
+same-length-4 : tie.Need-same-length-4 Inv-loop μ-loop
+same-length-4 c =
+    let p = start (c .before) .pre in
+    ap length (c .before .loop .inv .1 .laid) ∙ over-length _ _ _ (omega arith)
 
 returns-2 : tie.Need-returns-2 Inv-loop μ-loop
 returns-2 c =
@@ -220,6 +234,7 @@ lay-cells-spec =
     shared-slice-read-slot-3
     slot-requires
     same-length
+    same-length-2
     returns
     mul-slots
     slice-write-slots
@@ -232,12 +247,13 @@ lay-cells-spec =
     shared-slice-read-cell-way
     cell-way-requires
     mul-ways
-    element-write-ways
+    slice-write-ways
     wait-for-requires
     add-column
     add-row
     add-i
     loop-less
     loop-again
-    same-length-2
+    same-length-3
+    same-length-4
     returns-2)

@@ -13,7 +13,7 @@ size-fits-requires : tie.Need-size-fits-requires
 size-fits-requires c κs = search needs
 
 returns : tie.Need-returns
-returns c = refuse _ _ _ (coverTable 0) _ _ _ (size-bad _ (sym (c .before .size-fits .ensures) ∙ not-true _ (c .if1 .taken))) refl
+returns c = refuse _ _ _ _ (coverTable 0) _ _ _ (size-bad _ (sym (c .before .size-fits .ensures) ∙ not-true _ (c .if1 .taken))) refl
 
 bad-entry-requires : tie.Need-bad-entry-requires
 bad-entry-requires c κs = search needs
@@ -27,7 +27,7 @@ returns-2 c =
     let at-bad-entry = at-entry .before .before in
     let at-if1 = at-bad-entry .before in
     let at-size-fits = at-if1 .before in
-    refuse _ _ _ (coverTable _) _ _ _
+    refuse _ _ _ _ (coverTable _) _ _ _
     (entry-bad _ (sym (at-size-fits .size-fits .ensures) ∙ not-false _ (at-if1 .if1 .left)) _
     (found-at _ _ (sym (at-entry .entry .given .1) ∙ at-bad-entry .bad-entry .ensures))) refl
 
@@ -57,10 +57,10 @@ lay-cells-requires c κs =
     let start = at-size-fits .before .before .before .before .before .before in
     let a = start .args in
     let s = setupOf (a .setup) (a .covers .now) (a .direction .now) (a .cover .now) (a .group .now) (a .water .now) in
-    lay-ask s (a .slot .now) _ (start .pre)
+    lay-ask s (a .slot .now) (a .way .now) (start .pre)
     (sym (at-size-fits .size-fits .ensures) ∙ not-false _ (at-if1 .if1 .left))
     (found-no _ (sym (at-enum-told .enum-told .given .1) ∙ at-bad-entry .bad-entry .ensures))
-    _ (at-index-codes .index-codes .ensures) (c .before .before .lay-cells-arg .given .0 .1)
+    _ (at-index-codes .index-codes .ensures) (c .before .before .lay-cells-arg .given .0 .1) (c .before .lay-cells-arg2 .given .0 .1)
 
 enum-known-cell : tie.Need-enum-known-cell
 enum-known-cell c = search needs
@@ -77,14 +77,14 @@ returns-3 c =
     let start = at-size-fits .before .before .before .before .before .before in
     let a = start .args in
     let s = setupOf (a .setup) (a .covers .now) (a .direction .now) (a .cover .now) (a .group .now) (a .water .now) in
-    refuse _ _ _ (cellNumbers _) _ _ _
+    refuse _ _ _ _ (cellNumbers _) _ _ _
     (cell-bad s
     (sym (at-size-fits .size-fits .ensures) ∙ not-false _ (at-if1 .if1 .left))
     (found-no _ (sym (at-enum-told .enum-told .given .1) ∙ at-bad-entry .bad-entry .ensures))
     _ (cell-found s _ _ (start .pre)
     (sym (at-size-fits .size-fits .ensures) ∙ not-false _ (at-if1 .if1 .left))
     (found-no _ (sym (at-enum-told .enum-told .given .1) ∙ at-bad-entry .bad-entry .ensures))
-    _ (at-index-codes .index-codes .ensures) (at-lay-cells .before .before .before .lay-cells-arg .given .0 .1)
+    _ (at-index-codes .index-codes .ensures) (at-lay-cells .before .before .before .lay-cells-arg .given .0 .1) (at-lay-cells .before .before .lay-cells-arg2 .given .0 .1)
     _ _ _ _ (at-lay-cells .lay-cells .ensures) _ (at-cell .cell .given .1))) refl
 
 enum-told-2 : tie.Need-enum-told-2
@@ -105,7 +105,7 @@ order-requires c κs =
     order-ask s _ _ (start .pre)
     (sym (at-size-fits .size-fits .ensures) ∙ not-false _ (at-if1 .if1 .left))
     (found-no _ (sym (at-enum-told .enum-told .given .1) ∙ at-bad-entry .bad-entry .ensures))
-    _ (at-index-codes .index-codes .ensures) (at-lay-cells .before .before .before .lay-cells-arg .given .0 .1)
+    _ (at-index-codes .index-codes .ensures) (at-lay-cells .before .before .before .lay-cells-arg .given .0 .1) (at-lay-cells .before .before .lay-cells-arg2 .given .0 .1)
     _ _ _ _ (at-lay-cells .lay-cells .ensures) (at-enum-told2 .enum-told2 .given .1)
 
 enum-known-ring : tie.Need-enum-known-ring
@@ -125,19 +125,19 @@ returns-4 c =
     let start = at-size-fits .before .before .before .before .before .before in
     let a = start .args in
     let s = setupOf (a .setup) (a .covers .now) (a .direction .now) (a .cover .now) (a .group .now) (a .water .now) in
-    refuse _ _ _ (ring _) _ _ _
+    refuse _ _ _ _ (ring _) _ _ _
     (ring-bad s
     (sym (at-size-fits .size-fits .ensures) ∙ not-false _ (at-if1 .if1 .left))
     (found-no _ (sym (at-enum-told .enum-told .given .1) ∙ at-bad-entry .bad-entry .ensures))
     (cells-fit s _ _ (start .pre)
     (sym (at-size-fits .size-fits .ensures) ∙ not-false _ (at-if1 .if1 .left))
     (found-no _ (sym (at-enum-told .enum-told .given .1) ∙ at-bad-entry .bad-entry .ensures))
-    _ (at-index-codes .index-codes .ensures) (at-lay-cells .before .before .before .lay-cells-arg .given .0 .1)
+    _ (at-index-codes .index-codes .ensures) (at-lay-cells .before .before .before .lay-cells-arg .given .0 .1) (at-lay-cells .before .before .lay-cells-arg2 .given .0 .1)
     _ _ _ _ (at-lay-cells .lay-cells .ensures) (at-enum-told2 .enum-told2 .given .1))
     _ (ring-found s _ _ (start .pre)
     (sym (at-size-fits .size-fits .ensures) ∙ not-false _ (at-if1 .if1 .left))
     (found-no _ (sym (at-enum-told .enum-told .given .1) ∙ at-bad-entry .bad-entry .ensures))
-    _ (at-index-codes .index-codes .ensures) (at-lay-cells .before .before .before .lay-cells-arg .given .0 .1)
+    _ (at-index-codes .index-codes .ensures) (at-lay-cells .before .before .before .lay-cells-arg .given .0 .1) (at-lay-cells .before .before .lay-cells-arg2 .given .0 .1)
     _ _ _ _ (at-lay-cells .lay-cells .ensures) (at-enum-told2 .enum-told2 .given .1) _ _ (at-order .order .ensures) _ (at-ring .ring .given .1))) refl
 
 enum-told-3 : tie.Need-enum-told-3
@@ -162,19 +162,19 @@ returns-5 c =
     let start = at-size-fits .before .before .before .before .before .before in
     let a = start .args in
     let s = setupOf (a .setup) (a .covers .now) (a .direction .now) (a .cover .now) (a .group .now) (a .water .now) in
-    refuse _ _ _ season _ _ _
+    refuse _ _ _ _ season _ _ _
     (season-bad s
     (sym (at-size-fits .size-fits .ensures) ∙ not-false _ (at-if1 .if1 .left))
     (found-no _ (sym (at-enum-told .enum-told .given .1) ∙ at-bad-entry .bad-entry .ensures))
     (cells-fit s _ _ (start .pre)
     (sym (at-size-fits .size-fits .ensures) ∙ not-false _ (at-if1 .if1 .left))
     (found-no _ (sym (at-enum-told .enum-told .given .1) ∙ at-bad-entry .bad-entry .ensures))
-    _ (at-index-codes .index-codes .ensures) (at-lay-cells .before .before .before .lay-cells-arg .given .0 .1)
+    _ (at-index-codes .index-codes .ensures) (at-lay-cells .before .before .before .lay-cells-arg .given .0 .1) (at-lay-cells .before .before .lay-cells-arg2 .given .0 .1)
     _ _ _ _ (at-lay-cells .lay-cells .ensures) (at-enum-told2 .enum-told2 .given .1))
     (no-ring s _ _ (start .pre)
     (sym (at-size-fits .size-fits .ensures) ∙ not-false _ (at-if1 .if1 .left))
     (found-no _ (sym (at-enum-told .enum-told .given .1) ∙ at-bad-entry .bad-entry .ensures))
-    _ (at-index-codes .index-codes .ensures) (at-lay-cells .before .before .before .lay-cells-arg .given .0 .1)
+    _ (at-index-codes .index-codes .ensures) (at-lay-cells .before .before .before .lay-cells-arg .given .0 .1) (at-lay-cells .before .before .lay-cells-arg2 .given .0 .1)
     _ _ _ _ (at-lay-cells .lay-cells .ensures) (at-enum-told2 .enum-told2 .given .1) _ _ (at-order .order .ensures) (at-enum-told3 .enum-told3 .given .1))
     (sym (at-season-fits .season-fits .ensures) ∙ not-true _ (c .if2 .taken))) refl
 
@@ -197,7 +197,7 @@ returns-6 c =
     surveyed s _ _ (start .pre)
     (sym (at-size-fits .size-fits .ensures) ∙ not-false _ (at-if1 .if1 .left))
     (found-no _ (sym (at-enum-told .enum-told .given .1) ∙ at-bad-entry .bad-entry .ensures))
-    _ (at-index-codes .index-codes .ensures) (at-lay-cells .before .before .before .lay-cells-arg .given .0 .1)
+    _ (at-index-codes .index-codes .ensures) (at-lay-cells .before .before .before .lay-cells-arg .given .0 .1) (at-lay-cells .before .before .lay-cells-arg2 .given .0 .1)
     _ _ _ _ (at-lay-cells .lay-cells .ensures) (at-enum-told2 .enum-told2 .given .1) _ _ (at-order .order .ensures) (at-enum-told3 .enum-told3 .given .1)
     (sym (at-season-fits .season-fits .ensures) ∙ not-false _ (c .if2 .left))
 

@@ -27,7 +27,7 @@ returns c =
     let at-grid-fits = at-if1 .before in
     let a = at-grid-fits .before .before .before .before .before .before .args in
     let s = setupOf (a .setup) (a .covers .now) (a .direction .now) (a .cover .now) (a .group .now) (a .water .now) in
-    refuse-survey s _ _ grid _ _ _ (grid-bad s (setupLengths s) (sym (at-grid-fits .grid-fits .ensures) ∙ not-true _ (at-if1 .if1 .taken))) refl
+    refuse-survey s _ _ _ grid _ _ _ (grid-bad s (setupLengths s) (sym (at-grid-fits .grid-fits .ensures) ∙ not-true _ (at-if1 .if1 .taken))) refl
     (c .clear .ensures)
 
 count-requires : tie.Need-count-requires
@@ -46,7 +46,7 @@ returns-2 c =
     let at-grid-fits = at-if1 .before in
     let a = at-grid-fits .before .before .before .before .before .before .args in
     let s = setupOf (a .setup) (a .covers .now) (a .direction .now) (a .cover .now) (a .group .now) (a .water .now) in
-    refuse-survey s _ _ lent _ _ _
+    refuse-survey s _ _ _ lent _ _ _
     (lent-bad s (setupLengths s) (sym (at-grid-fits .grid-fits .ensures) ∙ not-false _ (at-if1 .if1 .left))
     (ap (λ (n : ℕ). oneEach n (setupLengths s)) (sym (at-count .count .ensures)) ∙ sym (at-setup-each .setup-each .ensures) ∙ not-true _ (at-if2 .if2 .taken))) refl
     (c .clear2 .ensures)
@@ -57,7 +57,7 @@ clear-requires-2 c κs = search needs
 chart-requires : tie.Need-chart-requires
 unfolding gridFits cells setupLengths
 chart-requires c κs =
-    let at-if2 = c .before .before .before .before in
+    let at-if2 = c .before .before .before in
     let at-setup-each = at-if2 .before in
     let at-count = at-setup-each .before in
     let at-if1 = at-count .before in
@@ -67,7 +67,7 @@ chart-requires c κs =
     let fits : gridFits s ≡ true = sym (at-grid-fits .grid-fits .ensures) ∙ not-false _ (at-if1 .if1 .left) in
     let each : oneEach (cells s) (setupLengths s) ≡ true
     = ap (λ (n : ℕ). oneEach n (setupLengths s)) (sym (at-count .count .ensures)) ∙ sym (at-setup-each .setup-each .ensures) ∙ not-false _ (at-if2 .if2 .left) in
-    surveyable s _ refl fits each
+    surveyable s fits each
 
 enum-told : tie.Need-enum-told
 enum-told c = search needs
@@ -80,7 +80,7 @@ unfolding gridFits cells setupLengths
 returns-3 c =
     let at-match = c .before .before .before .before in
     let at-chart = at-match .before in
-    let at-if2 = at-chart .before .before .before .before .before in
+    let at-if2 = at-chart .before .before .before .before in
     let at-setup-each = at-if2 .before in
     let at-count = at-setup-each .before in
     let at-if1 = at-count .before in
@@ -90,14 +90,14 @@ returns-3 c =
     let fits : gridFits s ≡ true = sym (at-grid-fits .grid-fits .ensures) ∙ not-false _ (at-if1 .if1 .left) in
     let each : oneEach (cells s) (setupLengths s) ≡ true
     = ap (λ (n : ℕ). oneEach n (setupLengths s)) (sym (at-count .count .ensures)) ∙ sym (at-setup-each .setup-each .ensures) ∙ not-false _ (at-if2 .if2 .left) in
-    chart-refuses s fits each _ _ _ _ _ (at-chart .chart .ensures .outcome)
+    chart-refuses s fits each _ _ _ _ _ _ (at-chart .chart .ensures .outcome)
     (λ e. miss (1 ∷ 2 ∷ 3 ∷ 4 ∷ 5 ∷ 6 ∷ 7 ∷ 8 ∷ 9 ∷ 10 ∷ []) 0 tt (rw e at (at-match .match .keys2))) (c .clear3 .ensures)
 
 returns-4 : tie.Need-returns-4
 unfolding gridFits cells setupLengths
 returns-4 c =
     let at-chart = c .before .before in
-    let at-if2 = at-chart .before .before .before .before .before in
+    let at-if2 = at-chart .before .before .before .before in
     let at-setup-each = at-if2 .before in
     let at-count = at-setup-each .before in
     let at-if1 = at-count .before in
@@ -107,7 +107,7 @@ returns-4 c =
     let fits : gridFits s ≡ true = sym (at-grid-fits .grid-fits .ensures) ∙ not-false _ (at-if1 .if1 .left) in
     let each : oneEach (cells s) (setupLengths s) ≡ true
     = ap (λ (n : ℕ). oneEach n (setupLengths s)) (sym (at-count .count .ensures)) ∙ sym (at-setup-each .setup-each .ensures) ∙ not-false _ (at-if2 .if2 .left) in
-    rw (c .enum-told .given .1) (chart-passes s fits each _ _ _ _ (rw (c .enum-told .given .1) at (at-chart .chart .ensures)))
+    rw (c .enum-told .given .1) (chart-passes s fits each _ _ _ _ _ (rw (c .enum-told .given .1) at (at-chart .chart .ensures)))
 
 pub survey-spec : {M : Type 1} → statement M
 survey-spec =

@@ -16,13 +16,13 @@ use Rattle.survey.proofs.QueueLaws.{InHand, way-next, hand-source, hand
 use Rattle.survey.proofs.order.peel.Tie as tie
 
 abbrev Inv-loop2 : tie.InvT-loop2
-Inv-loop2 n ways order₀ sources tail₀ head cell way₀ order tail way = InHand n (nextIn ways) head sources tail way order
+Inv-loop2 n ways order₀ sources tail₀ head cell way₀ order tail way = InHand n (nextIn n ways) head sources tail way order
 
 abbrev μ-loop2 : tie.MeasureT-loop2
 μ-loop2 n ways order₀ sources tail₀ head cell way₀ order tail way = n - tail
 
 abbrev Inv-loop : tie.InvT-loop
-Inv-loop n ways order₀ sources tail₀ head₀ order tail head = (head ≤ sources) × (PeeledIn n (nextIn ways) head sources tail order)
+Inv-loop n ways order₀ sources tail₀ head₀ order tail head = (head ≤ sources) × (PeeledIn n (nextIn n ways) head sources tail order)
 
 abbrev μ-loop : tie.MeasureT-loop
 μ-loop n ways order₀ sources tail₀ head₀ order tail head = sources - head
@@ -33,11 +33,14 @@ source : (a : tie.After-place Inv-loop2 μ-loop2 Inv-loop μ-loop)
 unfolding queued
 source a = a .place .ensures
 
-source-below : (a : tie.After-place Inv-loop2 μ-loop2 Inv-loop μ-loop) → a .place .result < 4096
-source-below a =
+source-inside : (a : tie.After-place Inv-loop2 μ-loop2 Inv-loop μ-loop) → a .place .result < a .before .before .before .before .args .n
+source-inside a =
     let at = a .before .before .before in
     let q = at .loop .inv .1 in
-    omega (arith, source a, q .behind, q .kept .queue .placed (at .loop .head) (omega (arith, q .behind)), at .before .pre .0 .most)
+    omega (arith, source a, q .kept .queue .placed (at .loop .head) (omega (arith, q .behind)))
+
+source-below : (a : tie.After-place Inv-loop2 μ-loop2 Inv-loop μ-loop) → a .place .result < 4096
+source-below a = omega (arith, source-inside a, a .before .before .before .before .pre .0 .most)
 
 abbrev turn : tie.After-place2 Inv-loop2 μ-loop2 Inv-loop μ-loop → tie.At-loop2 Inv-loop2 μ-loop2 Inv-loop μ-loop
 turn w = w .before
@@ -54,7 +57,7 @@ most w = start w .pre .0 .most
 -- the cell in hand leads to j
 abbrev Leads : tie.After-place2 Inv-loop2 μ-loop2 Inv-loop μ-loop → ℕ → Type 0
 Leads w j =
-    InHand (start w .args .n) (nextIn (start w .args .ways .now)) (outer w .loop .head) (start w .args .sources) (turn w .loop2 .tail) j
+    InHand (start w .args .n) (nextIn (start w .args .n) (start w .args .ways .now)) (outer w .loop .head) (start w .args .sources) (turn w .loop2 .tail) j
     (turn w .loop2 .order)
 
 in-hand : (w : tie.After-place2 Inv-loop2 μ-loop2 Inv-loop μ-loop) → Leads w (w .place2 .result)
@@ -86,7 +89,7 @@ element-copy-out-way c = source-below c
 loop2-holds : tie.Need-loop2-holds Inv-loop2 μ-loop2 Inv-loop μ-loop
 loop2-holds c = let a = c .before in
     let at = a .before .before .before in
-    rw (way-next (at .before .pre .0) (a .place .result) (source-below a), source a)
+    rw (way-next (at .before .pre .0) (a .place .result) (source-inside a), source a)
     (hand-source (at .loop .inv .1) (a .before .before .loop-test .taken))
 
 place-requires-2 : tie.Need-place-requires-2 Inv-loop2 μ-loop2 Inv-loop μ-loop
@@ -142,9 +145,9 @@ loop2-again c = let w = c .before .before .before .before .before in
     let l = turn w .loop2 .order in
     let tail = turn w .loop2 .tail in
     let less = set l j (getD l j 0 - 8192) in
-    let joined : ℕ → Type 0 = λ x. InHand (s .n) (nextIn (s .ways .now)) (outer w .loop .head) (s .sources) (tail + 1) (nextIn (s .ways .now) j)
+    let joined : ℕ → Type 0 = λ x. InHand (s .n) (nextIn (s .n) (s .ways .now)) (outer w .loop .head) (s .sources) (tail + 1) (nextIn (s .n) (s .ways .now) j)
     (set less tail (getD less tail 0 + x)) in
-    rw (way-next (start w .pre .0) j (omega (arith, most w)))
+    rw (way-next (start w .pre .0) j i)
     (subst joined (w .place2 .ensures) (hand-joins (in-hand w) (most w) i (omega (arith, c .before .if2 .left))))
 
 add-head : tie.Need-add-head Inv-loop2 μ-loop2 Inv-loop μ-loop

@@ -102,7 +102,7 @@ fill-requires c κs =
     let fits : oneEach (cells s) lentStores ≡ true
     = ap (λ (n : ℕ). oneEach n lentStores) (sym (at-count .count .ensures)) ∙ sym (at-stores-each .stores-each .ensures) ∙ not-false _ (at-if2 .if2 .left) in
     let passed : checkOf s ≡ accepted = accepted-back _ (sym (at-enum-told .enum-told .given .1) ∙ at-survey .survey .ensures .outcome) in
-    fill-ask s (a .soil .now) (a .snow .now) fits passed _ _ _ _ (at-survey .survey .ensures .mapped passed)
+    fill-ask s (a .soil .now) (a .snow .now) fits passed _ _ _ _ _ (at-survey .survey .ensures .mapped passed)
 
 begin-requires-4 : tie.Need-begin-requires-4
 begin-requires-4 c κs = search needs
@@ -130,7 +130,7 @@ returns-4 c =
     let fits : oneEach (cells s) lentStores ≡ true
     = ap (λ (n : ℕ). oneEach n lentStores) (sym (at-count .count .ensures)) ∙ sym (at-stores-each .stores-each .ensures) ∙ not-false _ (at-if2 .if2 .left) in
     let passed : checkOf s ≡ accepted = accepted-back _ (sym (at-enum-told .enum-told .given .1) ∙ at-survey .survey .ensures .outcome) in
-    accepted-fresh s _ _ fits passed _ _ _ _ (at-survey .survey .ensures .mapped passed) _ _ _ _ _ _ (c .begin4 .ensures .0)
+    accepted-fresh s _ _ fits passed _ _ _ _ _ (at-survey .survey .ensures .mapped passed) _ _ _ _ _ _ (c .begin4 .ensures .0)
     (at-enum-told .enum-told .given .1) (c .begin4 .ensures .1) (c .begin4 .ensures .2) (at-fill .fill .ensures)
 
 pub fresh-spec : {M : Type 1} → statement M
