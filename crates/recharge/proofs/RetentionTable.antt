@@ -2,9 +2,9 @@
 use mathlib.Core.List.{List, [], _∷_}
 use mathlib.Core.Path.{_≡_, refl, ap, sym, _∙_}
 use Prim.Native.Nat.{ℕ, zero, suc, _-_, _/_, _<_}
-use lib.ListN.{length, getD}
+use lib.ListN.{getD}
 use Rattle.theory.specs.Lists.{made}
-use Rattle.theory.proofs.ListLaws.{made-length, made-at}
+use Rattle.theory.proofs.ListLaws.{made-at}
 use Rattle.paper.specs.Retention.{F}
 use Rattle.paper.proofs.RetentionLaws.{F-start, F-next}
 use Rattle.recharge.specs.Retention.{table}

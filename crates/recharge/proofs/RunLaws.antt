@@ -6,7 +6,7 @@ use mathlib.Core.List.{List}
 use Prim.Native.Nat.{ℕ, _+_, _≤_, _<_}
 use native.Mathlib.Nat.{le-trans, le-of-eq, mul-le-mul-right}
 use native.Mathlib.Omega.{arith}
-use lib.ListN.{length, getD, replicate, length-replicate}
+use lib.ListN.{length, getD}
 use Rattle.theory.specs.Lists.{madeOver}
 use Rattle.theory.specs.Sums.{sum, given}
 use Rattle.theory.proofs.ListLaws.{made-at, made-length, made-cong, over-length}

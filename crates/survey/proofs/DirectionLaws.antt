@@ -2,15 +2,13 @@
 -- edge, and any other is one more than the row or column stepped to. Where a cell points then is a cell of the grid, or 4,096, or 4,097;
 -- and a cell's row and column are its number's quotient and remainder by the width.
 use mathlib.Core.Path.{_≡_, refl, sym, ap, _∙_}
-use mathlib.Core.Logic.{_⊎_, inl, inr}
 use Prim.Native.Nat.{ℕ, zero, suc, _+_, _-_, _*_, _/_, _%_, _≤_, _<_}
-use native.Mathlib.Nat.{zero-lt-suc, mod-lt, div-lt-iff-lt-mul, mul-le-mul-right, mul-add-mod-self-right, mod-eq-of-lt, le-of-eq}
+use native.Mathlib.Nat.{mul-add-mod-self-right, mod-eq-of-lt}
 use native.Mathlib.Omega.{arith}
 use lib.Arith.{digits-div}
 use borrow.Author.Tests.{lt-ltb, le-ltb, ne-eqb}
 use Rattle.theory.specs.Lowest.{Found, at, nowhere}
-use Rattle.theory.proofs.Cases.{below-or-not}
-use Rattle.paper.specs.Directions.{Step, less, same, more, Way, toward, closed, wayOf, stepped, cellAt, goesBy}
+use Rattle.paper.specs.Directions.{more, Way, toward, closed, wayOf, stepped, cellAt, goesBy}
 use Rattle.paper.specs.Setup.{pointed}
 use Rattle.survey.specs.Routes.{stepOf, goesFrom}
 

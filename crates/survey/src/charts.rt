@@ -73,8 +73,8 @@ pub fn clear(slot: &mut [u32; 4096], way: &mut [u32; 4096], turn: &mut [u32; 409
     *turn = [0u32; 4096];
 }
 
-// Tests 1 to 6. The cells' slots, ways and turns are written over whatever the arrays held, which no one reads past the cells. Where a test fails,
-// the arrays are wiped.
+// Tests 1 to 6. The cells' slots, ways and turns are written over whatever the arrays held, and nothing reads past the cells. Where a test fails, the
+// arrays are wiped.
 pub fn survey(
     setup: Setup,
     covers: &[u32],

@@ -1,5 +1,4 @@
 -- `settle::figures_at` meets its contract: the slot's numbers are those of the cell's plot, so that the figures worked out from them are the cell's.
-use Prim.Native.Nat.{_≤_}
 use native.Mathlib.Omega.{arith}
 use Rattle.recharge.specs.CoverDay.{Stands}
 use Rattle.survey.specs.Cells.{cellIn}

@@ -1,6 +1,5 @@
 -- `ways::steps` meets its contract: in each arm the byte is the arm's number, for which the paper's table computes; for the rest it is none of the eight.
-use mathlib.Core.Path.{_≡_, refl, sym, ap}
-use Prim.Native.Nat.{ℕ, _%_, _≤_}
+use mathlib.Core.Path.{sym, ap}
 use native.Mathlib.Omega.{arith}
 use Rattle.paper.specs.Directions.{wayOf}
 use Rattle.survey.specs.Routes.{stepOf, wayIn}
