@@ -59,10 +59,6 @@ module _ (t : Today) (covers slots ways order available soil snow intercepted ou
   slot-inside : (i : ℕ) → i < n → getD slots i 0 < 256
   slot-inside i h = omega (arith, ready .cells .slotted i h, count-limit covers (ready .cells .table))
 
-  pub settled-each : (gross : ℕ) (figure : ℕ → Figures) (gone? : ℕ → Bool) (totals : Totals) (soil' snow' int et re rj : List ℕ)
-      → Settled n gross figure gone? totals soil' snow' int et re rj → length re ≡ length recharged
-  settled-each gross figure gone? totals soil' snow' int et re rj s = ap length (s .recharges) ∙ made-length n _ ∙ sym (ready .recharges)
-
   module _ (held rain snowfall codes : List ℕ) (shared : SharedBySlot t covers held rain snowfall codes) where
     pub own-ask : OwnReady (t .meltable) slots rain snow recharged
     own-ask =

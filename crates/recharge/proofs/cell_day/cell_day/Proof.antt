@@ -1,4 +1,5 @@
 -- `cell_day::cell_day` meets its contract: what the day brings to the plot and what the soil does are the paper's figures, on open water too.
+use native.Mathlib.Omega.{arith}
 use borrow.Author.Needs.{needs}
 use Rattle.records.specs.Calls.{todayOf}
 use Rattle.recharge.proofs.FigureLaws.{plot-figures}
@@ -18,7 +19,9 @@ beyond-requires-2 : tie.Need-beyond-requires-2
 beyond-requires-2 c κs = search needs
 
 soil-day-requires : tie.Need-soil-day-requires
-soil-day-requires c κs = search needs
+soil-day-requires c κs =
+    let p = c .before .before .before .before .before .before .before .before .before .before .pre in
+    (p .deep, p .held, omega (arith, c .beyond2 .ensures, p .wet), p .potential, p .retained)
 
 gone-from-requires : tie.Need-gone-from-requires
 gone-from-requires c κs = search needs

@@ -7,19 +7,19 @@ use Rattle.recharge.proofs.cover_day.plot_at.Statement.{statement}
 use Rattle.recharge.proofs.cover_day.plot_at.Tie as tie
 
 mul-depth : tie.Need-mul-depth
-mul-depth c = search needs
+mul-depth c = omega (arith, c .pre .0)
 
 element-copy-out-depth : tie.Need-element-copy-out-depth
-element-copy-out-depth c = search needs
+element-copy-out-depth c = c .pre .0
 
 depth-requires : tie.Need-depth-requires
 depth-requires c κs = search needs
 
 mul-depth-2 : tie.Need-mul-depth-2
-mul-depth-2 c = search needs
+mul-depth-2 c = omega (arith, c .before .before .pre .0)
 
 element-copy-out-depth-2 : tie.Need-element-copy-out-depth-2
-element-copy-out-depth-2 c = search needs
+element-copy-out-depth-2 c = c .before .before .pre .0
 
 depth-requires-2 : tie.Need-depth-requires-2
 depth-requires-2 c κs = search needs
@@ -28,10 +28,10 @@ wide-requires : tie.Need-wide-requires
 wide-requires c κs = search needs
 
 mul-wide : tie.Need-mul-wide
-mul-wide c = search needs
+mul-wide c = omega (arith, c .before .before .before .before .before .pre .0)
 
 element-copy-out-wide : tie.Need-element-copy-out-wide
-element-copy-out-wide c = search needs
+element-copy-out-wide c = c .before .before .before .before .before .pre .0
 
 wide-requires-2 : tie.Need-wide-requires-2
 wide-requires-2 c κs = search needs
@@ -40,19 +40,19 @@ mul-t24 : tie.Need-mul-t24
 mul-t24 c = rw (c .before .before .wide .ensures, c .wide2 .ensures) (omega (arith, c .before .before .before .before .before .before .before .pre .1))
 
 mul-depth-3 : tie.Need-mul-depth-3
-mul-depth-3 c = search needs
+mul-depth-3 c = omega (arith, c .before .before .before .before .before .before .before .pre .0)
 
 element-copy-out-depth-3 : tie.Need-element-copy-out-depth-3
-element-copy-out-depth-3 c = search needs
+element-copy-out-depth-3 c = c .before .before .before .before .before .before .before .pre .0
 
 depth-requires-3 : tie.Need-depth-requires-3
 depth-requires-3 c κs = search needs
 
 mul-t31 : tie.Need-mul-t31
-mul-t31 c = search needs
+mul-t31 c = omega (arith, c .before .before .before .before .before .before .before .before .before .pre .0)
 
 element-copy-out-t34 : tie.Need-element-copy-out-t34
-element-copy-out-t34 c = search needs
+element-copy-out-t34 c = c .before .before .before .before .before .before .before .before .before .pre .0
 
 returns : tie.Need-returns
 returns c =

@@ -1,5 +1,8 @@
 -- `run::run` meets its contract: each pass is handed what the one before it left.
-use Rattle.recharge.proofs.RunLaws.{own-ask, route-ask, settle-ask, one-each, settled-each, ran}
+use Rattle.recharge.proofs.RunLaws.{own-ask, route-ask, settle-ask, one-each, ran}
+use mathlib.Core.Path.{sym, ap, _∙_}
+use lib.ListN.{length}
+use Rattle.theory.proofs.ListLaws.{made-length}
 use Rattle.survey.proofs.GroundLaws.{rooted, largest-by-slot}
 use borrow.Author.Needs.{needs}
 use Rattle.recharge.proofs.run.run.Statement.{statement}
@@ -72,7 +75,7 @@ same-length-6 : tie.Need-same-length-6
 same-length-6 c =
     let at-settle = c .before .before .before .before .before .before .before .before .before .before .before .before in
     let r = at-settle .before .before .before .before .before .before .before .before .before .before .before .before .before .before .before .before .before .before .before .before .before .before .before in
-    settled-each _ _ _ _ _ _ _ _ _ _ _ _ _ (start (covered (owned r)) .pre) _ _ _ _ _ _ _ _ _ _ (at-settle .settle .ensures)
+    ap length (at-settle .settle .ensures .recharges) ∙ made-length _ _ ∙ sym (start (covered (owned r)) .pre .recharges)
 
 same-length-7 : tie.Need-same-length-7
 same-length-7 c = search needs

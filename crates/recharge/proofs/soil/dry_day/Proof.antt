@@ -1,4 +1,5 @@
 -- `soil::dry_day` meets its contract: the loss is the paper's, and by its law no more than the soil, so that no difference is below zero.
+use mathlib.Core.Path.{refl}
 use Prim.Native.Nat.{_-_}
 use native.Mathlib.Omega.{arith}
 use borrow.Author.Needs.{needs}
@@ -25,7 +26,7 @@ sub-t14 c =
 
 returns : tie.Need-returns
 unfolding dryDay
-returns c = cc (c .loss .ensures)
+returns c = rw (c .loss .ensures) refl
 
 pub dry-day-spec : {M : Type 1} → statement M
 dry-day-spec = tie.close (tie.spec sub-t11 loss-requires add-t11 sub-t14 returns)

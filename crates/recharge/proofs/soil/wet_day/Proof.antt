@@ -1,4 +1,5 @@
 -- `soil::wet_day` meets its contract: the code's four figures are the paper's, one by one.
+use mathlib.Core.Path.{refl}
 use borrow.Author.Needs.{needs}
 use Rattle.paper.specs.Soil.{wetDay, surplus}
 use Rattle.recharge.proofs.soil.wet_day.Statement.{statement}
@@ -24,7 +25,8 @@ smaller-requires-2 c κs = search needs
 
 returns : tie.Need-returns
 unfolding wetDay surplus
-returns c = cc
+returns c =
+    rw (c .smaller2 .ensures, c .before .beyond2 .ensures, c .before .before .smaller .ensures, c .before .before .before .beyond .ensures) refl
 
 pub wet-day-spec : {M : Type 1} → statement M
 wet-day-spec =
