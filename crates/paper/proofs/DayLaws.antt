@@ -1,11 +1,11 @@
 -- An accepted day: what its tests leave standing, the water of its cells, its account and its end.
 use mathlib.Core.Path.{_≡_, refl, sym, ap, _∙_}
-use mathlib.Core.Bool.{Bool, true, false, not, _&&_, _||_, true≢false}
+use mathlib.Core.Bool.{Bool, true, false, not, _&&_, true≢false}
 use mathlib.Core.List.{_++_}
 use Prim.Native.Nat.{ℕ, suc, _+_, _≤_, _<_}
 use native.Mathlib.Nat.{le-refl, le-trans, zero-lt-suc, lt-suc-self, le-of-lt, mul-le-mul-right, add-zero, zero-add}
 use native.Mathlib.Omega.{arith}
-use lib.Dec.{leb, ltb, lit<, lit≤}
+use lib.Dec.{eqb, leb, ltb, lit<, lit≤}
 use lib.ListN.{length}
 use borrow.Author.Tests.{leb-true, ltb-true, ltb-false, eqb-true, not-false, lt-ltb, le-ltb, le-leb}
 use Rattle.theory.specs.Sums.{sum, given}
@@ -14,7 +14,7 @@ use Rattle.theory.proofs.Cases.{byCases, and-left, and-right, and-both, cond-tr
 use Rattle.theory.proofs.ListLaws.{made-at}
 use Rattle.theory.proofs.SumLaws.{sum-cong, sum-add, sum-most}
 use Rattle.paper.specs.Limits.{mostCells, mostSnow, mostGross}
-use Rattle.paper.specs.Directions.{Goes, to, leaves, stays}
+use Rattle.paper.specs.Directions.{Goes, to, leaves, stays, openWater}
 use Rattle.paper.specs.Setup.{Setup, cell, cells, goes, isOpen, isClosed, next, pointed}
 use Rattle.paper.specs.State.{
   State,
@@ -26,6 +26,7 @@ use Rattle.paper.specs.State.{
   storesFit,
   memoryFits,
   lastFits,
+  pastFits,
   dayFits,
   follows,
   remembered,
@@ -48,13 +49,13 @@ use Rattle.paper.proofs.SetupLaws.{Sound, sound, SoundCell, sound-cell,
 pub record SoundDay (s : Setup) (st : State) (r : Results) (d : Day) : Type 0 where
   pub setup : Sound s (lengthsOf s st r)
   pub day : dayFits d ≡ true
-  pub serial : follows (st .last) (d .serial) ≡ true
+  pub serial : follows (st .past .last) (d .serial) ≡ true
   pub soil : (i : ℕ) → i < cells s → soilAt st i ≤ mostSoilOf (cell s i)
   pub snow : (i : ℕ) → i < cells s → snowAt st i ≤ mostSnowOf (cell s i)
-  pub memory : memoryFits (st .memory) ≡ true
-  pub last : lastFits (st .last) ≡ true
+  pub memory : memoryFits (st .past .memory) ≡ true
+  pub last : lastFits (st .past .last) ≡ true
   pub room : (i : ℕ) → i < cells s → cell s i .open? ≡ false
-      → storeOf (cell s i) (today s (st .memory) d) (snowAt st i) ≤ mostSnow
+      → storeOf (cell s i) (today (s .season) (st .past) d) (snowAt st i) ≤ mostSnow
 
 not-and : (a b : Bool) → a ≡ false → (not a && b) ≡ false → b ≡ false
 not-and true b e f = absurd (true≢false e)
@@ -74,14 +75,14 @@ module _ (s : Setup) (st : State) (r : Results) (d : Day) (e : verdictOf s st r 
   stores-fit i h =
       sym (cond-true (ltb i (cells s)) (lt-ltb i (cells s) h) _ _) ∙ state-fits i (le-trans h (le-of-lt (lt-suc-self (cells s))))
 
-  memory-fits : (memoryFits (st .memory) && lastFits (st .last)) ≡ true
+  past-fits : pastFits (st .past) ≡ true
   unfolding stateFits
-  memory-fits =
+  past-fits =
       sym (cond-false (ltb (cells s) (cells s)) (le-ltb (cells s) (cells s) (le-refl (cells s))) _ _)
       ∙ state-fits (cells s) (lt-suc-self (cells s))
 
   pub sound-day : SoundDay s st r d
-  unfolding setupTests mapTests dayTests testAt Passes storesFit tooDeep single verdictOf
+  unfolding setupTests mapTests dayTests testAt Passes storesFit pastFits tooDeep single verdictOf
   sound-day =
       record {
         setup = sound s (lengthsOf s st r) (dayTests s st d) e;
@@ -89,8 +90,8 @@ module _ (s : Setup) (st : State) (r : Results) (d : Day) (e : verdictOf s st r 
         serial = not-false _ (day-passes 7 (lit< tt) 0 (zero-lt-suc 0));
         soil = λ i h. leb-true _ _ (and-left _ _ (stores-fit i h));
         snow = λ i h. leb-true _ _ (and-right (leb (soilAt st i) (mostSoilOf (cell s i))) _ (stores-fit i h));
-        memory = and-left _ _ memory-fits;
-        last = and-right (memoryFits (st .memory)) _ memory-fits;
+        memory = and-left _ _ past-fits;
+        last = and-right (memoryFits (st .past .memory)) _ past-fits;
         room = λ i h land. ltb-false _ _ (not-and _ _ land (day-passes 9 (lit< tt) i h));
       }
 
@@ -114,25 +115,17 @@ pub refused-is : (s : Setup) (st : State) (r : Results) (d : Day) (why : Refusal
 unfolding dayOf outcomeAs
 refused-is s st r d why e = ap (outcomeAs s st r d) e
 
-to-not-stays : {j : ℕ} → to j ≡ stays → ⊥
-to-not-stays e = let z : _≡_ {A = ℕ} 0 1 = cc in omega arith
-
-leaves-not-stays : leaves ≡ stays → ⊥
-leaves-not-stays e = let z : _≡_ {A = ℕ} 0 1 = cc in omega arith
-
-one-of : {n : ℕ} → n ≤ mostCells → (o : Bool) (g : Goes) (x : ℕ) → (o ≡ true → g ≡ stays) → ((j : ℕ) → g ≡ to j → j < n)
-    → (o ≡ false → g ≡ stays → x ≡ 0) → given (o || isLeaving g) x + given (ltb (pointed g) n) x ≡ x
+one-of : {n : ℕ} → n ≤ mostCells → (g : Goes) (x : ℕ) → ((j : ℕ) → g ≡ to j → j < n) → (g ≡ stays → x ≡ 0)
+    → given (isLeaving g) x + given (ltb (pointed g) n) x ≡ x
 unfolding given isLeaving pointed
-one-of few true (to j) x lake inside none = absurd (to-not-stays (lake refl))
-one-of few true leaves x lake inside none = absurd (leaves-not-stays (lake refl))
-one-of {n} few true stays x lake inside none = rw (le-ltb 4097 n (le-trans few (lit≤ tt))) (add-zero x)
-one-of {n} few false (to j) x lake inside none = rw (lt-ltb j n (inside j refl)) (zero-add x)
-one-of {n} few false leaves x lake inside none = rw (le-ltb 4096 n few) (add-zero x)
-one-of {n} few false stays x lake inside none = rw (le-ltb 4097 n (le-trans few (lit≤ tt))) (sym (none refl refl))
+one-of {n} few (to j) x inside none = rw (lt-ltb j n (inside j refl)) (zero-add x)
+one-of {n} few leaves x inside none = rw (le-ltb 4096 n few) (add-zero x)
+one-of {n} few stays x inside none = rw (le-ltb 4097 n (le-trans few (lit≤ tt))) (sym (none refl))
+one-of {n} few openWater x inside none = rw (le-ltb 4098 n (le-trans few (lit≤ tt))) (add-zero x)
 
 module _ (s : Setup) (st : State) (r : Results) (d : Day) (ok : SoundDay s st r d) where
   abbrev t : Today
-  t = today s (st .memory) d
+  t = today (s .season) (st .past) d
 
   abbrev n : ℕ
   n = cells s
@@ -145,6 +138,10 @@ module _ (s : Setup) (st : State) (r : Results) (d : Day) (ok : SoundDay s st r 
   unfolding lengthsOf setupLengths oneEach
   direction-each = eqb-true _ _ (and-left _ _ (ok .setup .lent))
 
+  pub cover-each : length (s .cover) ≡ n
+  unfolding lengthsOf setupLengths oneEach
+  cover-each = eqb-true _ _ (and-left _ _ (and-right (eqb (length (s .direction)) n) _ (ok .setup .lent)))
+
   -- each cell's curve number is at most 100
   pub small : (i : ℕ) → i < n → curveNumber (t .condition) (cell s i .N) ≤ 100
   small i h =
@@ -152,7 +149,7 @@ module _ (s : Setup) (st : State) (r : Results) (d : Day) (ok : SoundDay s st r 
       curve-number-limits (t .condition) (cell s i .N) (known .least-N) (known .most-N) .most
 
   pub order : UpslopeFirst n (next s)
-  order = upslope s (lengthsOf s st r) (ok .setup) direction-each
+  order = upslope s (lengthsOf s st r) (ok .setup) direction-each cover-each
 
   -- the water that reaches a cell is its own and its inflow
   pub reached : (i : ℕ) → i < n → W i ≡ own s st t i + inflow s st t i
@@ -164,17 +161,21 @@ module _ (s : Setup) (st : State) (r : Results) (d : Day) (ok : SoundDay s st r 
   outflow-is i h =
       day-outflow (cell s i) t (soilAt st i) (snowAt st i) (inflow s st t i) ∙ ap (passedOf (cell s i) t) (sym (reached i h))
 
-  closed-none : (i w : ℕ) → isOpen s i ≡ false → goes s i ≡ stays → passed s t i w ≡ 0
+  closed-none : (i w : ℕ) → goes s i ≡ stays → passed s t i w ≡ 0
   unfolding passed passedOf cell isClosed
-  closed-none i w o g = cond-false (isOpen s i) o _ _ ∙ cond-true (isClosed (goes s i)) (ap isClosed g) _ _
+  closed-none i w g =
+      byCases (isOpen s i) (λ o. absurd (open-not-stays (sym (goes-open s (ok .setup .charted) i o) ∙ g)))
+      (λ o. cond-false (isOpen s i) o _ _ ∙ cond-true (isClosed (goes s i)) (ap isClosed g) _ _)
+    where
+      open-not-stays : openWater ≡ stays → ⊥
+      open-not-stays e = let z : _≡_ {A = ℕ} 0 1 = cc in omega arith
 
   -- what a cell passes on is gone or arrives in the grid, and a closed depression passes nothing on
   gone-or-inside : (i : ℕ) → i < n → (w : ℕ)
       → given (isGone s i) (passed s t i w) + given (ltb (next s i) n) (passed s t i w) ≡ passed s t i w
   unfolding isGone next
   gone-or-inside i h w =
-      one-of (ok .setup .charted .few) (isOpen s i) (goes s i) (passed s t i w) (goes-open s (ok .setup .charted) i)
-      (λ j. to-inside s (ok .setup .charted) i j h) (closed-none i w)
+      one-of (ok .setup .charted .few) (goes s i) (passed s t i w) (λ j. to-inside s (ok .setup .charted) i j h) (closed-none i w)
 
   inflows : sum n (inflow s st t) ≡ sum n (λ i. given (ltb (next s i) n) (figuresOf s st d i .outflow))
   unfolding inflow
@@ -256,10 +257,10 @@ module _ (s : Setup) (st : State) (r : Results) (d : Day) (ok : SoundDay s st r 
         water-most n (next s) (passed s t) order (λ j w hj. unfold passed in passed-most (cell s j) t (small j hj) w) (own s st t) i h,
       )
 
-  kept-memory : memoryFits (remembered (st .memory) (d .gross)) ≡ true
+  kept-memory : memoryFits (remembered (st .past .memory) (d .gross)) ≡ true
   unfolding memoryFits remembered
   kept-memory =
-      let fits : memoryFits (st .memory) ≡ true = ok .memory in
+      let fits : memoryFits (st .past .memory) ≡ true = ok .memory in
       let today : leb (d .gross) mostGross ≡ true = le-leb _ _ gross-limit in
       search (and-left, and-right, and-both) depth 9
 
@@ -277,7 +278,7 @@ module _ (s : Setup) (st : State) (r : Results) (d : Day) (ok : SoundDay s st r 
   kept-snow i h = end-snow (cell s i) t (soilAt st i) (snowAt st i) (inflow s st t i) mostSnow (ok .room i h)
 
   pub kept-state : (i : ℕ) → i < suc n → stateFits s (nextState s st d (figuresOf s st d)) i ≡ true
-  unfolding stateFits nextState storesFit
+  unfolding stateFits nextState storesFit pastFits
   kept-state i h =
       byCases (ltb i n)
       (λ e.

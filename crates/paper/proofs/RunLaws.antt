@@ -14,7 +14,7 @@ use Rattle.theory.proofs.ListLaws.{made-at, made-length}
 use Rattle.theory.proofs.SumLaws.{sum-cong, sum-le, given-le}
 use Rattle.paper.specs.CurveNumber.{curveNumber}
 use Rattle.paper.specs.Setup.{Setup, cell, cells, next}
-use Rattle.paper.specs.State.{State, Day, Memory, remembered, mostSoilOf, soilAt, snowAt}
+use Rattle.paper.specs.State.{State, Day, Past, remembered, serial, mostSoilOf, soilAt, snowAt}
 use Rattle.paper.specs.CellDay.{Today, today, passedOf, Figures}
 use Rattle.paper.specs.Refusals.{accepted}
 use Rattle.paper.specs.Day.{own, passed, inflow, figures, isGone, Results, totalsOf, resultsOf, nextState, verdictOf, figuresOf, outcomeAs}
@@ -57,23 +57,23 @@ module _ (s : Setup) (a b : State) (ra rb : Results) (d : Day) (oka : SoundDay s
   g = figuresOf s b d
 
   both : (i : ℕ) → i < cells s → (P : Figures → Figures → Type 0)
-      → P (figures s a (today s (a .memory) d) i) (figures s b (today s (a .memory) d) i) → P (f i) (g i)
+      → P (figures s a (today (s .season) (a .past) d) i) (figures s b (today (s .season) (a .past) d) i) → P (f i) (g i)
   unfolding figuresOf
   both i h P =
-      subst (λ (m : Memory). P (figures s a (today s (a .memory) d) i) (figures s b (today s m d) i)) (wet .memory)
+      subst (λ (m : Past). P (figures s a (today (s .season) (a .past) d) i) (figures s b (today (s .season) m d) i)) (wet .past)
 
   day-rises : (i : ℕ) → i < cells s → Rises (f i) (g i)
   unfolding today
   day-rises i h =
       both i h Rises
-      (figures-rise s a b (today s (a .memory) d) (d .gross) (d .gross) (le-refl (d .gross)) (wet .soil) (wet .snow)
+      (figures-rise s a b (today (s .season) (a .past) d) (d .gross) (d .gross) (le-refl (d .gross)) (wet .soil) (wet .snow)
       (okb .soil) (small s a ra d oka) i h)
 
   same-intercepted : sum (cells s) (λ i. f i .intercepted) ≡ sum (cells s) (λ i. g i .intercepted)
   unfolding figures
   same-intercepted =
       sum-cong (cells s) _ _ (λ i h. both i h (λ p q. p .intercepted ≡ q .intercepted)
-      (day-intercepted (cell s i) (today s (a .memory) d) _ _ _ ∙ sym (day-intercepted (cell s i) (today s (a .memory) d) _ _ _)))
+      (day-intercepted (cell s i) (today (s .season) (a .past) d) _ _ _ ∙ sym (day-intercepted (cell s i) (today (s .season) (a .past) d) _ _ _)))
 
   -- what leaves the grid's soil and snow in a day
   abbrev leaving : (ℕ → Figures) → ℕ
@@ -106,8 +106,7 @@ module _ (s : Setup) (a b : State) (ra rb : Results) (d : Day) (oka : SoundDay s
       record {
         soil = no-smaller (λ x. x .soil) (λ x y up. up .soil);
         snow = no-smaller (λ x. x .snow) (λ x y up. up .snow);
-        memory = ap (λ (m : Memory). remembered m (d .gross)) (wet .memory);
-        last = refl;
+        past = ap (λ (m : Past). record { memory = remembered (m .memory) (d .gross); last = serial (d .serial) }) (wet .past);
       }
 
 -- what a run keeps, day by day: the second is ahead in every sum and store, and the extra at the start is accounted for

@@ -13,19 +13,19 @@ use borrow.Author.Tests.{leb-true, ltb-true, eqb-true, ne-eqb, not-false}
 use Rattle.theory.specs.Lowest.{Found, at, nowhere, lowest, some, isFound}
 use Rattle.theory.specs.Ways.{OneWay, UpslopeFirst, onRing}
 use Rattle.theory.proofs.Cases.{byCases, and-left, and-right, cond-true, cond-false}
-use Rattle.theory.proofs.LowestLaws.{lowest-at}
+use Rattle.theory.proofs.LowestLaws.{lowest-at, none-lowest}
 use Rattle.theory.proofs.WayLaws.{ring-free, free-order}
 use Rattle.paper.specs.Limits.{mostCells, mostInterception}
 use Rattle.paper.specs.Covers.{entries, sizeFits, entryFits, groupFits, codeOf, growingOf, dormantOf}
-use Rattle.paper.specs.Directions.{Step, less, same, more, Way, toward, closed, stepped, Goes, to, leaves, stays, cellAt, goesBy, wayOf}
-use Rattle.paper.specs.Setup.{Setup, Cell, cell, cells, gridFits, seasonFits, coverOf, groupOf, entryOf, place, cellFits, isOpen, goes, pointed, isClosed, next}
+use Rattle.paper.specs.Directions.{Step, less, same, more, Way, toward, closed, stepped, Goes, to, leaves, stays, openWater, cellAt, goesBy, wayOf}
+use Rattle.paper.specs.Setup.{Setup, Cell, cell, cells, cellsIn, gridFits, seasonFits, coverOf, groupOf, entryOf, placeOr, cellFits, isOpen, goes, pointed, isClosed, next}
 use Rattle.paper.specs.Refusals.{Refusal, Test, accepted, verdict, single, oneEach, coverPlaces, coverFits, setupTests, mapTests}
 use Rattle.paper.proofs.RefusalLaws.{Passes, testAt, accepted-passes}
 
 -- what tests 1, 3 and 4 leave standing
 pub record Charted (s : Setup) : Type 0 where
-  pub wide : 1 ≤ s .width
-  pub high : 1 ≤ s .height
+  pub wide : 1 ≤ s .grid .width
+  pub high : 1 ≤ s .grid .height
   pub few : cells s ≤ mostCells
   pub sized : sizeFits (s .covers) ≡ true
   pub entered : (e : ℕ) → e < entries (s .covers) → entryFits (s .covers) e ≡ true
@@ -36,7 +36,7 @@ pub record Sound (s : Setup) (lengths : List ℕ) : Type 0 where
   pub charted : Charted s
   pub lent : oneEach (cells s) lengths ≡ true
   pub ringless : (i : ℕ) → i < cells s → onRing (cells s) (next s) i ≡ false
-  pub seasoned : seasonFits s ≡ true
+  pub seasoned : seasonFits (s .season) ≡ true
 
 single-passes : (fits : Bool) (r : Refusal) → Passes (single fits r) → fits ≡ true
 unfolding Passes single
@@ -60,13 +60,13 @@ module _ (s : Setup) (lengths : List ℕ) (more : List Test) (e : verdict (setup
   pub sound : Sound s lengths
   unfolding setupTests mapTests testAt Passes gridFits coverPlaces
   sound =
-      let grid : gridFits s ≡ true = single-passes _ _ (passes 0 (lit< tt)) in
+      let grid : gridFits (s .grid) ≡ true = single-passes _ _ (passes 0 (lit< tt)) in
       record {
         charted =
             record {
               wide = leb-true _ _ (and-left _ _ (and-left _ _ grid));
-              high = leb-true _ _ (and-right (leb 1 (s .width)) _ (and-left _ _ grid));
-              few = leb-true _ _ (and-right (leb 1 (s .width) && leb 1 (s .height)) _ grid);
+              high = leb-true _ _ (and-right (leb 1 (s .grid .width)) _ (and-left _ _ grid));
+              few = leb-true _ _ (and-right (leb 1 (s .grid .width) && leb 1 (s .grid .height)) _ grid);
               sized = covered-size;
               entered = λ e h. and-right (sizeFits (s .covers)) _ (covered e (rw (cond-true (sizeFits (s .covers)) covered-size) h));
               celled = λ i h. not-false _ (passes 3 (lit< tt) i h);
@@ -138,20 +138,20 @@ interception-fits : (covers : List ℕ) (e : ℕ) → entryFits covers e ≡ tru
 unfolding entryFits
 interception-fits covers e fits = (leb-true _ _ (search (and-left, and-right)), leb-true _ _ (search (and-left, and-right)))
 
-stays-not-to : {j : ℕ} → stays ≡ to j → ⊥
-stays-not-to e = let z : _≡_ {A = ℕ} 0 1 = cc in omega arith
+open-not-to : {j : ℕ} → openWater ≡ to j → ⊥
+open-not-to e = let z : _≡_ {A = ℕ} 0 1 = cc in omega arith
 
 module _ (s : Setup) (ok : Charted s) where
   -- a cell's entry is in the table, and has its code
   pub entry-in : (i : ℕ) → i < cells s → (entryOf s i < entries (s .covers)) × (codeOf (s .covers) (entryOf s i) ≡ coverOf s i)
-  unfolding entryOf place cellFits some isFound
+  unfolding entryOf placeOr cellFits some isFound
   entry-in i h = go (lowest (entries (s .covers)) coded) refl (and-left _ _ (and-left _ _ (ok .celled i h)))
     where
       coded : ℕ → Bool
       coded e = eqb (codeOf (s .covers) e) (coverOf s i)
 
       go : (f : Found) → lowest (entries (s .covers)) coded ≡ f → isFound f ≡ true
-          → (place f < entries (s .covers)) × (codeOf (s .covers) (place f) ≡ coverOf s i)
+          → (placeOr (entries (s .covers)) f < entries (s .covers)) × (codeOf (s .covers) (placeOr (entries (s .covers)) f) ≡ coverOf s i)
       go (at e) found t =
           let low : (e < entries (s .covers)) × (coded e ≡ true) × ((j : ℕ) → j < e → coded j ≡ false) = lowest-at _ _ found in
           (low .0, eqb-true _ _ (low .1))
@@ -176,22 +176,22 @@ module _ (s : Setup) (ok : Charted s) where
         dormant = interception-fits (s .covers) e fits .1;
       }
 
-  -- an open-water cell stays, and any other goes by its byte
-  pub goes-open : (i : ℕ) → isOpen s i ≡ true → goes s i ≡ stays
+  -- an open-water cell points nowhere, and any other goes by its byte
+  pub goes-open : (i : ℕ) → isOpen s i ≡ true → goes s i ≡ openWater
   unfolding goes
   goes-open i e = cond-true (isOpen s i) e _ _
 
-  pub goes-land : (i : ℕ) → isOpen s i ≡ false → goes s i ≡ goesBy (s .width) (s .height) i (wayOf (getD (s .direction) i 0))
+  pub goes-land : (i : ℕ) → isOpen s i ≡ false → goes s i ≡ goesBy (s .grid .width) (s .grid .height) i (wayOf (getD (s .direction) i 0))
   unfolding goes
   goes-land i e = cond-false (isOpen s i) e _ _
 
   pub to-inside : (i j : ℕ) → i < cells s → goes s i ≡ to j → j < cells s
-  unfolding cells
+  unfolding cellsIn
   to-inside i j h e =
-      byCases (isOpen s i) (λ o. absurd (stays-not-to (sym (goes-open i o) ∙ e)))
-      (λ o. goes-inside (s .width) (s .height) i _ j (ok .wide) h (sym (goes-land i o) ∙ e))
+      byCases (isOpen s i) (λ o. absurd (open-not-to (sym (goes-open i o) ∙ e)))
+      (λ o. goes-inside (s .grid .width) (s .grid .height) i _ j (ok .wide) h (sym (goes-land i o) ∙ e))
 
-  -- no cell but one that stays has the number 4,097
+  -- no cell but a closed depression has the number 4,097
   pub closed-by : (i : ℕ) → i < cells s → isClosed (goes s i) ≡ eqb (next s i) 4097
   unfolding next pointed isClosed
   closed-by i h = go (goes s i) (λ j. to-inside i j h)
@@ -203,16 +203,36 @@ module _ (s : Setup) (ok : Charted s) where
           sym (ne-eqb j 4097 (λ (same : j ≡ 4097). omega arith))
       go leaves inside = refl
       go stays inside = refl
+      go openWater inside = refl
 
-  -- past the last cell nothing points inside
-  module _ (each : length (s .direction) ≡ cells s) where
+  -- past the last cell nothing points inside: there is no cover code, the table has none for it, and its direction is none of the eight
+  module _ (each : length (s .direction) ≡ cells s) (covered : length (s .cover) ≡ cells s) where
+    uncoded : (e : ℕ) → e < entries (s .covers) → eqb (codeOf (s .covers) e) 0 ≡ false
+    unfolding entryFits
+    uncoded e h =
+        let fits : entryFits (s .covers) e ≡ true = ok .entered e h in
+        let low : 1 ≤ codeOf (s .covers) e = leb-true _ _ (search (and-left, and-right) depth 9) in
+        ne-eqb _ _ (λ (z : codeOf (s .covers) e ≡ 0). omega arith)
+
+    past-entry : (i : ℕ) → cells s ≤ i → entryOf s i ≡ entries (s .covers)
+    unfolding entryOf placeOr
+    past-entry i h =
+        ap (placeOr (entries (s .covers)))
+        (none-lowest (entries (s .covers)) (λ e. eqb (codeOf (s .covers) e) (coverOf s i))
+        (λ e l. rw (List·getD-eq-default (s .cover) 0 {n = i} (rw covered h)) (uncoded e l)))
+
+    past-land : (i : ℕ) → cells s ≤ i → isOpen s i ≡ false
+    unfolding isOpen sizeFits entries
+    past-land i h =
+        let whole : length (s .covers) % 16 ≡ 0 = eqb-true _ _ (and-left _ _ (ok .sized)) in
+        rw (past-entry i h, List·getD-eq-default (s .covers) 0 {n = 16 * (length (s .covers) / 16) + 1} (omega arith)) refl
+
     past : (i : ℕ) → cells s ≤ i → goes s i ≡ stays
     unfolding wayOf goesBy
     past i h =
-        byCases (isOpen s i) (goes-open i)
-        (λ o. goes-land i o
-        ∙ ap (λ (byte : ℕ). goesBy (s .width) (s .height) i (wayOf byte))
-        (List·getD-eq-default (s .direction) 0 (rw each h)))
+        goes-land i (past-land i h)
+        ∙ ap (λ (byte : ℕ). goesBy (s .grid .width) (s .grid .height) i (wayOf byte))
+        (List·getD-eq-default (s .direction) 0 (rw each h))
 
     pub next-past : (i : ℕ) → cells s ≤ i → next s i ≡ 4097
     unfolding next pointed
@@ -221,7 +241,8 @@ module _ (s : Setup) (ok : Charted s) where
     pub ways : OneWay (cells s) (next s)
     ways = record { outside = λ i h. rw (next-past i h) (le-trans (ok .few) (lit≤ tt)) }
 
-pub upslope : (s : Setup) (lengths : List ℕ) → Sound s lengths → length (s .direction) ≡ cells s → UpslopeFirst (cells s) (next s)
-upslope s lengths ok each =
-    let out : OneWay (cells s) (next s) = ways s (ok .charted) each in
+pub upslope : (s : Setup) (lengths : List ℕ) → Sound s lengths → length (s .direction) ≡ cells s → length (s .cover) ≡ cells s
+    → UpslopeFirst (cells s) (next s)
+upslope s lengths ok each covered =
+    let out : OneWay (cells s) (next s) = ways s (ok .charted) each covered in
     free-order (cells s) (next s) (ring-free (cells s) (next s) (ok .ringless) out) out

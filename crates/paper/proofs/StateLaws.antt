@@ -7,8 +7,8 @@ use lib.Dec.{ltb}
 use borrow.Author.Tests.{le-leb, ltb-true}
 use Rattle.theory.proofs.Cases.{byCases, and-both, cond-true, cond-false}
 use Rattle.theory.proofs.ListLaws.{made-at}
-use Rattle.paper.specs.Setup.{Setup, cell, cells}
-use Rattle.paper.specs.State.{Day, Memory, remembered, freshState, mostSoilOf, mostSnowOf, soilAt, snowAt, storesFit, memoryFits, lastFits}
+use Rattle.paper.specs.Setup.{Setup, Season, cell, cells}
+use Rattle.paper.specs.State.{Day, Memory, Past, remembered, freshState, mostSoilOf, mostSnowOf, soilAt, snowAt, storesFit, memoryFits, lastFits, pastFits}
 use Rattle.paper.specs.CellDay.{today}
 use Rattle.paper.specs.Refusals.{stateFits}
 
@@ -20,13 +20,13 @@ unfolding remembered
 five-days m a b c d e = refl
 
 -- today's gross precipitation is not counted in the condition
-pub today-not-counted : (s : Setup) (m : Memory) (d e : Day) → d .dayOfYear ≡ e .dayOfYear
-    → today s m d .condition ≡ today s m e .condition
+pub today-not-counted : (s : Season) (p : Past) (d e : Day) → d .dayOfYear ≡ e .dayOfYear
+    → today s p d .condition ≡ today s p e .condition
 unfolding today
-today-not-counted s m d e same = rw same refl
+today-not-counted s p d e same = rw same refl
 
 pub fresh-fits : (s : Setup) (i : ℕ) → i < suc (cells s) → stateFits s (freshState s) i ≡ true
-unfolding stateFits freshState storesFit memoryFits lastFits
+unfolding stateFits freshState storesFit pastFits memoryFits lastFits
 fresh-fits s i h =
     byCases (ltb i (cells s))
     (λ e.

@@ -2,8 +2,8 @@
 use mathlib.Core.Bool.{Bool, cond, not}
 use Prim.Native.Nat.{ℕ, _+_, _-_}
 use Rattle.theory.specs.Sums.{given}
-use Rattle.paper.specs.Setup.{Setup, Cell, growing}
-use Rattle.paper.specs.State.{Memory, Day, fiveDays}
+use Rattle.paper.specs.Setup.{Season, Cell, growing}
+use Rattle.paper.specs.State.{Past, Day, fiveDays}
 use Rattle.paper.specs.Interception.{intercepted, net}
 use Rattle.paper.specs.Snow.{fallsAsSnow, meltable, melt}
 use Rattle.paper.specs.CurveNumber.{Condition, conditionOf, curveNumber}
@@ -21,15 +21,15 @@ pub record Today : Type 0 where
   pub meltable : ℕ
   pub condition : Condition
 
-unfoldable pub today : Setup → Memory → Day → Today
-today s m d =
+unfoldable pub today : Season → Past → Day → Today
+today s p d =
     record {
       gross = d .gross;
       potential = d .potential;
       growing? = growing s (d .dayOfYear);
       snows? = fallsAsSnow (d .minimum) (d .mean) (d .maximum);
       meltable = meltable (d .maximum);
-      condition = conditionOf (growing s (d .dayOfYear)) (fiveDays m);
+      condition = conditionOf (growing s (d .dayOfYear)) (fiveDays (p .memory));
     }
 
 -- rule 2, by the season

@@ -1,13 +1,13 @@
 -- The three calls: the setup check, the fresh state and one day, each for every input, refused or not.
-use mathlib.Core.Bool.{Bool, true, _||_}
+use mathlib.Core.Bool.{Bool, true}
 use mathlib.Core.List.{List, [], _∷_, _++_}
 use Prim.Native.Nat.{ℕ, _+_}
 use lib.ListN.{length}
 use Rattle.theory.specs.Lists.{made}
 use Rattle.theory.specs.Sums.{sum, given}
-use Rattle.paper.specs.Directions.{Goes, to, leaves, stays}
-use Rattle.paper.specs.Setup.{Setup, cell, cells, goes, isOpen, next}
-use Rattle.paper.specs.State.{State, Day, none, serial, noRain, remembered, freshState, soilAt, snowAt}
+use Rattle.paper.specs.Directions.{Goes, to, leaves, stays, openWater}
+use Rattle.paper.specs.Setup.{Setup, cell, cells, goes, next}
+use Rattle.paper.specs.State.{State, Day, serial, noPast, remembered, freshState, soilAt, snowAt}
 use Rattle.paper.specs.CellDay.{Today, today, ownOf, passedOf, Figures, cellDay}
 use Rattle.paper.specs.Flow.{arriving, water}
 use Rattle.paper.specs.Refusals.{Verdict, accepted, refused, verdict, setupLengths, setupTests, dayTests}
@@ -24,7 +24,7 @@ pub record Fresh : Type 0 where
 unfoldable pub freshAs : Setup → List ℕ → List ℕ → Verdict → Fresh
 freshAs s soil snow accepted = record { verdict = accepted; state = freshState s }
 freshAs s soil snow (refused r) =
-    record { verdict = refused r; state = record { soil = soil; snow = snow; memory = noRain; last = none } }
+    record { verdict = refused r; state = record { soil = soil; snow = snow; past = noPast } }
 
 unfoldable pub freshOf : Setup → List ℕ → List ℕ → Fresh
 freshOf s soil snow = freshAs s soil snow (verdict (setupTests s (setupLengths s ++ length soil ∷ length snow ∷ [])))
@@ -49,9 +49,10 @@ unfoldable pub isLeaving : Goes → Bool
 isLeaving (to j) = Bool.false
 isLeaving leaves = true
 isLeaving stays = Bool.false
+isLeaving openWater = true
 
 unfoldable pub isGone : Setup → ℕ → Bool
-isGone s i = isOpen s i || isLeaving (goes s i)
+isGone s i = isLeaving (goes s i)
 
 -- five results per cell
 pub record Results : Type 0 where
@@ -102,8 +103,7 @@ nextState s st d figure =
     record {
       soil = made (cells s) (λ i. figure i .soil);
       snow = made (cells s) (λ i. figure i .snow);
-      memory = remembered (st .memory) (d .gross);
-      last = serial (d .serial);
+      past = record { memory = remembered (st .past .memory) (d .gross); last = serial (d .serial) };
     }
 
 -- one day: with the lent results as they were before the call
@@ -129,7 +129,7 @@ unfoldable pub verdictOf : Setup → State → Results → Day → Verdict
 verdictOf s st r d = verdict (setupTests s (lengthsOf s st r) ++ dayTests s st d)
 
 unfoldable pub figuresOf : Setup → State → Day → ℕ → Figures
-figuresOf s st d = figures s st (today s (st .memory) d)
+figuresOf s st d = figures s st (today (s .season) (st .past) d)
 
 unfoldable pub outcomeAs : Setup → State → Results → Day → Verdict → Outcome
 outcomeAs s st r d accepted =

@@ -32,11 +32,12 @@ stepped size less (suc k) = at k
 stepped size same k = at k
 stepped size more k = cond (ltb (suc k) size) (at (suc k)) nowhere
 
--- where a cell's water goes: to a cell, over the edge, or it stays
+-- where a cell's water goes: to a cell, over the edge, or it stays; open water points nowhere
 pub data Goes : Type 0 where
   to : ℕ → Goes
   leaves : Goes
   stays : Goes
+  openWater : Goes
 
 -- cells are numbered from 0, row by row from the top left
 unfoldable pub cellAt : ℕ → Found → Found → Goes

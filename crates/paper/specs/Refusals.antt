@@ -9,7 +9,7 @@ use Rattle.theory.specs.Ways.{onRing}
 use Rattle.paper.specs.Limits.{mostSnow}
 use Rattle.paper.specs.Covers.{sizeFits, entries, entryFits}
 use Rattle.paper.specs.Setup.{Setup, Cell, cell, cells, gridFits, seasonFits, cellFits, next}
-use Rattle.paper.specs.State.{State, Day, storesFit, memoryFits, lastFits, dayFits, follows, snowAt}
+use Rattle.paper.specs.State.{State, Day, storesFit, pastFits, dayFits, follows, snowAt}
 use Rattle.paper.specs.CellDay.{Today, today, storeOf}
 
 -- what is wrong
@@ -55,6 +55,15 @@ pub data Verdict : Type 0 where
   accepted : Verdict
   refused : Refusal → Verdict
 
+-- the number and the place that come back: 0 and 0 where all tests pass
+unfoldable pub verdictNumber : Verdict → ℕ
+verdictNumber accepted = 0
+verdictNumber (refused why) = numberOf why
+
+unfoldable pub verdictPlace : Verdict → ℕ
+verdictPlace accepted = 0
+verdictPlace (refused why) = placeOf why
+
 -- a test of some places, and what its failure at a place is called
 pub record Test : Type 0 where
   pub places : ℕ
@@ -96,16 +105,16 @@ mapTests s =
     record { places = coverPlaces (s .covers); fails = λ e. not (coverFits (s .covers) e); called = coverTable }
     ∷ record { places = cells s; fails = λ i. not (cellFits s i); called = cellNumbers }
     ∷ record { places = cells s; fails = λ i. onRing (cells s) (next s) i; called = ring }
-    ∷ single (seasonFits s) season
+    ∷ single (seasonFits (s .season)) season
     ∷ []
 
 -- tests 1 to 6, with the lengths of the lent slices
 unfoldable pub setupTests : Setup → List ℕ → List Test
-setupTests s lengths = single (gridFits s) grid ∷ single (oneEach (cells s) lengths) lent ∷ mapTests s
+setupTests s lengths = single (gridFits (s .grid)) grid ∷ single (oneEach (cells s) lengths) lent ∷ mapTests s
 
 -- 9: each cell's stores, then the memory and the last serial at the cell count
 unfoldable pub stateFits : Setup → State → ℕ → Bool
-stateFits s st i = cond (ltb i (cells s)) (storesFit s st i) (memoryFits (st .memory) && lastFits (st .last))
+stateFits s st i = cond (ltb i (cells s)) (storesFit s st i) (pastFits (st .past))
 
 -- 10: snowfall would take the store past 10,000,000
 unfoldable pub tooDeep : Cell → Today → ℕ → Bool
@@ -115,11 +124,11 @@ tooDeep c t snow = not (c .open?) && ltb mostSnow (storeOf c t snow)
 unfoldable pub dayTests : Setup → State → Day → List Test
 dayTests s st d =
     single (dayFits d) dayRecord
-    ∷ single (follows (st .last) (d .serial)) serialGap
+    ∷ single (follows (st .past .last) (d .serial)) serialGap
     ∷ record { places = suc (cells s); fails = λ i. not (stateFits s st i); called = stateAt }
     ∷ record {
       places = cells s;
-      fails = λ i. tooDeep (cell s i) (today s (st .memory) d) (snowAt st i);
+      fails = λ i. tooDeep (cell s i) (today (s .season) (st .past) d) (snowAt st i);
       called = snowfall;
     }
     ∷ []

@@ -54,8 +54,7 @@ stored s st = sum (cells s) (λ i. soilAt st i + snowAt st i)
 pub record Wetter (first second : State) : Type 0 where
   pub soil : (i : ℕ) → soilAt first i ≤ soilAt second i
   pub snow : (i : ℕ) → snowAt first i ≤ snowAt second i
-  pub memory : first .memory ≡ second .memory
-  pub last : first .last ≡ second .last
+  pub past : first .past ≡ second .past
 
 -- each cell's figure in the second list is no smaller
 unfoldable pub NoSmaller : List ℕ → List ℕ → Type 0

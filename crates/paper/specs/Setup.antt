@@ -16,14 +16,20 @@ use Rattle.paper.specs.Covers.{
   rootDepthOf,
   entries,
 }
-use Rattle.paper.specs.Directions.{Goes, to, leaves, stays, wayOf, goesBy}
+use Rattle.paper.specs.Directions.{Goes, to, leaves, stays, openWater, wayOf, goesBy}
 
-pub record Setup : Type 0 where
+pub record Grid : Type 0 where
   pub width : ℕ
   pub height : ℕ
-  -- first and last growing day
+
+-- first and last growing day
+pub record Season : Type 0 where
   pub first : ℕ
   pub last : ℕ
+
+pub record Setup : Type 0 where
+  pub grid : Grid
+  pub season : Season
   -- 16 numbers an entry
   pub covers : List ℕ
   -- one entry a cell
@@ -32,17 +38,20 @@ pub record Setup : Type 0 where
   pub group : List ℕ
   pub water : List ℕ
 
-unfoldable pub cells : Setup → ℕ
-cells s = s .width * s .height
+unfoldable pub cellsIn : Grid → ℕ
+cellsIn g = g .width * g .height
 
-unfoldable pub gridFits : Setup → Bool
-gridFits s = leb 1 (s .width) && leb 1 (s .height) && leb (cells s) mostCells
+abbrev pub cells : Setup → ℕ
+cells s = cellsIn (s .grid)
 
-unfoldable pub seasonFits : Setup → Bool
+unfoldable pub gridFits : Grid → Bool
+gridFits g = leb 1 (g .width) && leb 1 (g .height) && leb (cellsIn g) mostCells
+
+unfoldable pub seasonFits : Season → Bool
 seasonFits s = within 1 lastDayOfYear (s .first) && within 1 lastDayOfYear (s .last) && leb (s .first) (s .last)
 
 -- the day of the year is a growing day: both ends count
-unfoldable pub growing : Setup → ℕ → Bool
+unfoldable pub growing : Season → ℕ → Bool
 growing s dayOfYear = within (s .first) (s .last) dayOfYear
 
 -- a cell's numbers
@@ -55,13 +64,13 @@ groupOf s i = getD (s .group) i 0
 abbrev pub waterOf : Setup → ℕ → ℕ
 waterOf s i = getD (s .water) i 0
 
--- its entry in the cover table
-unfoldable pub place : Found → ℕ
-place (at e) = e
-place nowhere = 0
+-- its entry in the cover table; a code that the table does not have is given the place past the last one
+unfoldable pub placeOr : ℕ → Found → ℕ
+placeOr past (at e) = e
+placeOr past nowhere = past
 
 unfoldable pub entryOf : Setup → ℕ → ℕ
-entryOf s i = place (lowest (entries (s .covers)) (λ e. eqb (codeOf (s .covers) e) (coverOf s i)))
+entryOf s i = placeOr (entries (s .covers)) (lowest (entries (s .covers)) (λ e. eqb (codeOf (s .covers) e) (coverOf s i)))
 
 unfoldable pub cellFits : Setup → ℕ → Bool
 cellFits s i =
@@ -74,13 +83,14 @@ isOpen s i = eqb (openOf (s .covers) (entryOf s i)) 1
 
 -- an open-water cell points nowhere, whatever its byte
 unfoldable pub goes : Setup → ℕ → Goes
-goes s i = cond (isOpen s i) stays (goesBy (s .width) (s .height) i (wayOf (getD (s .direction) i 0)))
+goes s i = cond (isOpen s i) openWater (goesBy (s .grid .width) (s .grid .height) i (wayOf (getD (s .direction) i 0)))
 
--- the cell that it points to, or a number past all cells: 4,096 over the edge, 4,097 where it stays
+-- the cell that it points to, or a number past all cells: 4,096 over the edge, 4,097 where it stays, 4,098 on open water
 unfoldable pub pointed : Goes → ℕ
 pointed (to j) = j
 pointed leaves = mostCells
 pointed stays = suc mostCells
+pointed openWater = suc (suc mostCells)
 
 unfoldable pub next : Setup → ℕ → ℕ
 next s i = pointed (goes s i)
@@ -89,12 +99,13 @@ unfoldable pub isClosed : Goes → Bool
 isClosed (to j) = Bool.false
 isClosed leaves = Bool.false
 isClosed stays = Bool.true
+isClosed openWater = Bool.false
 
 -- what the rules read of one cell
 pub record Cell : Type 0 where
   -- open water
   pub open? : Bool
-  -- it passes nothing on: a closed depression (or open water, which rule 1 looks at first)
+  -- a closed depression
   pub closed? : Bool
   pub capacity : ℕ
   -- the table's N

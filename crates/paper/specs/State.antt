@@ -44,12 +44,20 @@ pub data Last : Type 0 where
   none : Last
   serial : ℕ → Last
 
+-- what a state has besides its stores
+pub record Past : Type 0 where
+  pub memory : Memory
+  pub last : Last
+
+-- five zeros, and none
+abbrev pub noPast : Past
+noPast = record { memory = noRain; last = none }
+
 pub record State : Type 0 where
   -- one entry a cell
   pub soil : List ℕ
   pub snow : List ℕ
-  pub memory : Memory
-  pub last : Last
+  pub past : Past
 
 pub record Day : Type 0 where
   pub serial : ℕ
@@ -90,6 +98,9 @@ unfoldable pub lastFits : Last → Bool
 lastFits none = true
 lastFits (serial n) = leb n mostSerial
 
+unfoldable pub pastFits : Past → Bool
+pastFits p = memoryFits (p .memory) && lastFits (p .last)
+
 unfoldable pub dayFits : Day → Bool
 dayFits d =
     leb (d .serial) mostSerial
@@ -113,6 +124,5 @@ freshState s =
     record {
       soil = made (cells s) (λ i. mostSoilOf (cell s i));
       snow = made (cells s) (λ i. 0);
-      memory = noRain;
-      last = none;
+      past = noPast;
     }

@@ -1,3 +1,1 @@
-pub mod LimitLaws
-pub mod Temperatures
-pub mod OutcomeLaws
+pub mod VerdictLaws

@@ -1,46 +1,10 @@
-// What the office hands over, and what comes back.
+// What the calls hand back.
+ghost use mathlib.Core.Path.{_≡_};
+ghost use Rattle.paper.specs.Day.{noTotals};
+ghost use Rattle.records.specs.Answers.{totalsAs};
+use crate::past::Past;
 use crate::quantities::Depth;
-use crate::quantities::Memory;
-use crate::quantities::TenthF;
-
-// The grid and the growing season. The cover table and the cells are lent beside it.
-pub struct Setup {
-    pub width: u32,
-    pub height: u32,
-    pub first: u32,
-    pub last: u32,
-}
-
-pub struct DayRecord {
-    pub serial: u32,
-    pub day_of_year: u32,
-    pub gross: Depth,
-    pub minimum: TenthF,
-    pub mean: TenthF,
-    pub maximum: TenthF,
-    pub potential: Depth,
-}
-
-// The last serial, or none yet.
-pub enum Last {
-    Never,
-    Serial(u32),
-}
-
-// What is wrong, with its place; the paper's number of each case is in specs/Calls.antt.
-pub enum Outcome {
-    Accepted,
-    GridSize,
-    LentSize,
-    CoverTable(usize),
-    CellNumbers(usize),
-    RingAt(usize),
-    SeasonOutside,
-    DayOutside,
-    SerialGap,
-    StateOutside(usize),
-    SnowTooDeep(usize),
-}
+use crate::verdicts::Verdict;
 
 pub struct Totals {
     pub gross: Depth,
@@ -53,21 +17,29 @@ pub struct Totals {
 }
 
 pub struct Answer {
-    pub outcome: Outcome,
+    pub verdict: Verdict,
     pub totals: Totals,
-    pub memory: Memory,
-    pub last: Last,
+    pub past: Past,
 }
 
 // What a fresh state has besides its stores.
 pub struct Start {
-    pub outcome: Outcome,
-    pub memory: Memory,
-    pub last: Last,
+    pub verdict: Verdict,
+    pub past: Past,
 }
 
-// The lowest place that fails a test.
-pub enum Place {
-    At(usize),
-    Nowhere,
+impl Totals {
+    pub fn none() -> Totals
+        ensures { λ r. ⌜ totalsAs r ≡ noTotals ⌝ }
+    {
+        Totals {
+            gross: Depth(0),
+            intercepted: Depth(0),
+            evapotranspired: Depth(0),
+            recharged: Depth(0),
+            rejected: Depth(0),
+            gone: Depth(0),
+            stored: Depth(0),
+        }
+    }
 }

@@ -2,8 +2,6 @@
 // The limits that bound a quantity stand with it.
 ghost use mathlib.Core.Path.{_≡_};
 ghost use Prim.Native.Nat.{_-_, min};
-ghost use Rattle.paper.specs.State.{remembered, fiveDays};
-ghost use Rattle.records.specs.Quantities.{memoryOf, FiveFit};
 
 // Units of 0.0001 inch.
 pub struct Depth(pub u64);
@@ -59,43 +57,4 @@ impl CurveNumber {
     pub const LEAST: CurveNumber = CurveNumber(30);
 
     pub const MOST: CurveNumber = CurveNumber(100);
-}
-
-// The gross precipitation of the five previous days.
-pub struct Memory {
-    pub oldest: Depth,
-    pub fourth: Depth,
-    pub third: Depth,
-    pub second: Depth,
-    pub yesterday: Depth,
-}
-
-impl Memory {
-    pub fn next(self, gross: Depth) -> Memory
-        ensures { λ r. ⌜ memoryOf r ≡ remembered (memoryOf self) (gross .0) ⌝ }
-    {
-        let fourth = self.fourth;
-        let third = self.third;
-        let second = self.second;
-        let yesterday = self.yesterday;
-        Memory {
-            oldest: fourth,
-            fourth: third,
-            third: second,
-            second: yesterday,
-            yesterday: gross,
-        }
-    }
-
-    pub(crate) fn five_days(self) -> Depth
-        requires { ⌜ FiveFit self ⌝ }
-        ensures { λ r. ⌜ r .0 ≡ fiveDays (memoryOf self) ⌝ }
-    {
-        let oldest = self.oldest.0;
-        let fourth = self.fourth.0;
-        let third = self.third.0;
-        let second = self.second.0;
-        let yesterday = self.yesterday.0;
-        Depth(oldest + fourth + third + second + yesterday)
-    }
 }

@@ -5,3 +5,4 @@ pub mod SumLaws
 pub mod SumsAlong
 pub mod LowestLaws
 pub mod WayLaws
+pub mod Widths

@@ -1,0 +1,53 @@
+// The grid and the growing season, with their limits: tests 1 and 6.
+ghost use mathlib.Core.Path.{_≡_};
+ghost use Rattle.paper.specs.Setup.{cellsIn, gridFits, seasonFits, growing};
+ghost use Rattle.records.specs.Grids.{gridAs, seasonAs};
+use crate::lent::place;
+
+pub struct Grid {
+    pub width: u32,
+    pub height: u32,
+}
+
+// The first and the last growing day.
+pub struct Season {
+    pub first: u32,
+    pub last: u32,
+}
+
+pub const MOST_CELLS: usize = 4096;
+
+impl Grid {
+    pub fn cells(self) -> usize
+        ensures { λ r. ⌜ r ≡ cellsIn (gridAs self) ⌝ }
+    {
+        let width = self.width;
+        let height = self.height;
+        place(width) * place(height)
+    }
+
+    pub fn fits(self) -> bool
+        ensures { λ r. ⌜ r ≡ gridFits (gridAs self) ⌝ }
+    {
+        (1 <= self.width) & (1 <= self.height) & (self.cells() <= MOST_CELLS)
+    }
+}
+
+impl Season {
+    pub const LAST_DAY_OF_YEAR: u32 = 366;
+
+    pub fn fits(self) -> bool
+        ensures { λ r. ⌜ r ≡ seasonFits (seasonAs self) ⌝ }
+    {
+        ((1 <= self.first) & (self.first <= Season::LAST_DAY_OF_YEAR))
+            & ((1 <= self.last) & (self.last <= Season::LAST_DAY_OF_YEAR))
+            & (self.first <= self.last)
+    }
+
+    // Both ends of the season count.
+    pub fn grows(self, day_of_year: u32) -> bool
+        ensures { λ r. ⌜ r ≡ growing (seasonAs self) «day_of_year» ⌝ }
+    {
+        (self.first <= day_of_year) & (day_of_year <= self.last)
+    }
+}

@@ -1,0 +1,103 @@
+// What a state has besides its stores: the rain memory and the last serial, with their limits, which belong to test 9.
+ghost use mathlib.Core.Path.{_≡_};
+ghost use Rattle.paper.specs.State.{remembered, memoryFits, lastFits, pastFits, noPast, follows};
+ghost use Rattle.records.specs.Past.{memoryAs, lastAs, pastAs};
+use crate::days::DayRecord;
+use crate::quantities::Depth;
+
+// The gross precipitation of the five previous days.
+pub struct Memory {
+    pub oldest: Depth,
+    pub fourth: Depth,
+    pub third: Depth,
+    pub second: Depth,
+    pub yesterday: Depth,
+}
+
+// The last serial, or none yet.
+pub enum Last {
+    Never,
+    Serial(u32),
+}
+
+pub struct Past {
+    pub memory: Memory,
+    pub last: Last,
+}
+
+impl Memory {
+    pub fn next(self, gross: Depth) -> Memory
+        ensures { λ r. ⌜ memoryAs r ≡ remembered (memoryAs self) (gross .0) ⌝ }
+    {
+        let fourth = self.fourth;
+        let third = self.third;
+        let second = self.second;
+        let yesterday = self.yesterday;
+        Memory {
+            oldest: fourth,
+            fourth: third,
+            third: second,
+            second: yesterday,
+            yesterday: gross,
+        }
+    }
+
+    pub fn fits(self) -> bool
+        ensures { λ r. ⌜ r ≡ memoryFits (memoryAs self) ⌝ }
+    {
+        let most = Depth::MOST_GROSS.0;
+        (self.oldest.0 <= most)
+            & (self.fourth.0 <= most)
+            & (self.third.0 <= most)
+            & (self.second.0 <= most)
+            & (self.yesterday.0 <= most)
+    }
+}
+
+impl Last {
+    pub fn fits(self) -> bool
+        ensures { λ r. ⌜ r ≡ lastFits (lastAs self) ⌝ }
+    {
+        match self {
+            Last::Never => true,
+            Last::Serial(before) => before <= DayRecord::MOST_SERIAL,
+        }
+    }
+
+    // Test 8. One more than the last serial can pass 32 bits.
+    pub fn is_followed_by(self, serial: u32) -> bool
+        ensures { λ r. ⌜ r ≡ follows (lastAs self) serial ⌝ }
+    {
+        match self {
+            Last::Never => true,
+            Last::Serial(before) => serial as u64 == before as u64 + 1,
+        }
+    }
+}
+
+impl Past {
+    // No rain remembered, and no serial.
+    pub fn none() -> Past
+        ensures { λ r. ⌜ pastAs r ≡ noPast ⌝ }
+    {
+        let memory = Memory {
+            oldest: Depth(0),
+            fourth: Depth(0),
+            third: Depth(0),
+            second: Depth(0),
+            yesterday: Depth(0),
+        };
+        Past {
+            memory,
+            last: Last::Never,
+        }
+    }
+
+    pub fn fits(self) -> bool
+        ensures { λ r. ⌜ r ≡ pastFits (pastAs self) ⌝ }
+    {
+        let memory = self.memory;
+        let last = self.last;
+        memory.fits() & last.fits()
+    }
+}

@@ -1,0 +1,5 @@
+// The lowest place that fails a test.
+pub enum Place {
+    At(usize),
+    Nowhere,
+}

@@ -1,0 +1,2 @@
+pub mod TodayLaws
+pub mod Temperatures
