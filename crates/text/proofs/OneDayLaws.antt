@@ -1,5 +1,5 @@
 -- One day of the program, from its seven numbers to its line: the results are lent from arrays, whose fronts hold what the day before left, the
--- numbers are the paper's record, and what was said of the outcome is what was written.
+-- numbers are the paper's record, and what the verdict says is what was written.
 use mathlib.Core.Path.{_≡_, refl, sym, ap, _∙_}
 use mathlib.Core.List.{List, _∷_, _++_}
 use Prim.Native.Nat.{ℕ, zero, suc, _+_, _*_, _≤_}
@@ -11,16 +11,14 @@ use lib.Seq.{length-take-le, length-front, take-at}
 use mir.Syntax.{w32}
 use mir.Val.{toZ, ofZ}
 use Rattle.paper.specs.Day.{Results, Totals}
-use Rattle.paper.specs.Refusals.{Verdict, accepted, refused, numberOf, placeOf}
-use Rattle.recharge.specs.Answers.{resultsOf}
+use Rattle.paper.specs.Refusals.{Verdict, accepted, refused, Refusal}
+use Rattle.records.specs.Answers.{resultsAs}
 use Rattle.text.specs.Words.{signed}
-use Rattle.text.specs.Lines.{dayLine, refusedLine}
+use Rattle.text.specs.Lines.{dayLine}
 use Rattle.text.specs.Program.{daysFrom, dayAt, refusal, noResults}
-use Rattle.text.specs.Refusals.{saidOf}
 use Rattle.text.specs.Run.{Coded, lineOf, toldAs, Tells}
 use Rattle.text.specs.Writing.{Wrote}
 use Rattle.text.specs.declared.days.Told.the-variants.{More, Last}
-use Rattle.text.specs.declared.refusals.Spoken.the-variants.{Accepted, Refused}
 use Rattle.text.proofs.SignLaws.{signed-kept}
 
 -- a part of an array of zeros is zeros, and has its own length
@@ -34,7 +32,7 @@ part-length n m h = sym (ap length (zeros n m h) ∙ length-replicate {A = ℕ} 
 
 -- the lent parts of the five arrays of results
 abbrev pub parts : ℕ → List ℕ → List ℕ → List ℕ → List ℕ → List ℕ → Results
-parts n i o e r j = resultsOf (take n i) (take n o) (take n e) (take n r) (take n j)
+parts n i o e r j = resultsAs (take n i) (take n o) (take n e) (take n r) (take n j)
 
 -- each array has an entry for every cell
 pub record Room (n : ℕ) (i o e r j : List ℕ) : Type 0 where
@@ -48,7 +46,7 @@ pub record Room (n : ℕ) (i o e r j : List ℕ) : Type 0 where
 pub no-results :
     (n m : ℕ) → n ≤ m → (let l = replicate {A = ℕ} m 0 in parts n l l l l l ≡ noResults n)
 unfolding noResults
-no-results n m h = ap (λ (l : List ℕ). resultsOf l l l l l) (zeros n m h)
+no-results n m h = ap (λ (l : List ℕ). resultsAs l l l l l) (zeros n m h)
 
 pub room : (n m : ℕ) → n ≤ m → (let l = replicate {A = ℕ} m 0 in Room n l l l l l)
 room n m h =
@@ -70,7 +68,7 @@ module _ (n : ℕ) where
       (i o e r j i′ o′ e′ r′ j′ : List ℕ) → Room n i o e r j → length i′ ≡ length (take n i) → length o′ ≡ length (take n o)
       → length e′ ≡ length (take n e) → length r′ ≡ length (take n r) → length j′ ≡ length (take n j)
       → Room n (after i i′) (after o o′) (after e e′) (after r r′) (after j j′)
-      × (parts n (after i i′) (after o o′) (after e e′) (after r r′) (after j j′) ≡ resultsOf i′ o′ e′ r′ j′)
+      × (parts n (after i i′) (after o o′) (after e e′) (after r r′) (after j j′) ≡ resultsAs i′ o′ e′ r′ j′)
   left i o e r j i′ o′ e′ r′ j′ h a b c d f = (
     record {
       intercepted = long i i′ (h .intercepted) a;
@@ -112,20 +110,16 @@ module _ (ns : List ℕ) (coded : Coded ns) (from k : ℕ) (start : from ≡ day
 
 -- a day's line, and its refusal, as they are told
 pub tells-line :
-    (v : Verdict) (t : Totals) (at serial : ℕ) (before after : List ℕ) (next : ℕ) → saidOf v ≡ Accepted
+    (v : Verdict) (t : Totals) (at serial : ℕ) (before after : List ℕ) (next : ℕ) → v ≡ accepted
     → Wrote 168 at (dayLine serial t) before after next
     → Tells at serial t v before after (More next)
-unfolding saidOf lineOf toldAs
-tells-line accepted t at serial before after next e w = record { result = ap More (w .end); buffer = w .buffer; short = w .short }
-tells-line (refused why) t at serial before after next e w = absurd (let z : _≡_ {A = ℕ} 0 1 = cc in omega arith)
+unfolding lineOf toldAs
+tells-line v t at serial before after next e w = rw e (record { result = ap More (w .end); buffer = w .buffer; short = w .short })
 
 pub tells-refusal :
-    (v : Verdict) (t : Totals) (at serial number place : ℕ) (before after : List ℕ) (next : ℕ) → saidOf v ≡ Refused number place
-    → Wrote 53 at (refusedLine number place) before after next
+    (v : Verdict) (t : Totals) (at serial : ℕ) (why : Refusal) (before after : List ℕ) (next : ℕ) → v ≡ refused why
+    → Wrote 53 at (refusal why) before after next
     → Tells at serial t v before after (Last next)
-unfolding saidOf lineOf toldAs refusal
-tells-refusal accepted t at serial number place before after next e w = absurd (let z : _≡_ {A = ℕ} 0 1 = cc in omega arith)
-tells-refusal (refused why) t at serial number place before after next e w =
-    let n : numberOf why ≡ number = cc in
-    let p : placeOf why ≡ place = cc in
-    record { result = rw (n, p) (ap Last (w .end)); buffer = rw (n, p) (w .buffer); short = rw (n, p) (omega (arith, w .short)) }
+unfolding lineOf toldAs
+tells-refusal v t at serial why before after next e w =
+    rw e (record { result = ap Last (w .end); buffer = w .buffer; short = omega (arith, w .short) })

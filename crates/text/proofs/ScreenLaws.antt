@@ -8,14 +8,14 @@ use lib.Dec.{leb, eqb}
 use lib.ListN.{length}
 use borrow.Author.Tests.{lt-ltb, le-ltb, leb-true}
 use Rattle.theory.proofs.Cases.{byCases, below-or-not, and-left, and-right}
-use Rattle.paper.specs.Setup.{cells, gridFits}
+use Rattle.paper.specs.Setup.{cellsIn, gridFits}
 use Rattle.text.specs.Program.{field, coverCount, cellCount, cellsFrom, daysFrom, isComplete, setup, screen}
 use Rattle.text.specs.Run.{Complete}
 use Rattle.text.specs.declared.screening.Screened.the-variants.{Refused, Ready}
 
 -- the tests as the code has them
 abbrev pub gridTakes : ℕ → ℕ → Bool
-gridTakes width height = leb 1 width && leb 1 height && leb (width * height) 4096
+gridTakes width height = gridFits (record { width = width; height = height })
 
 abbrev pub coversTake : ℕ → Bool
 coversTake count = leb 1 count && leb count 64
@@ -28,6 +28,7 @@ hasAll count needed = leb needed count && eqb ((count - needed) % 7) 0
 
 module _ (ns : List ℕ) where
   pub few-cells : gridTakes (field ns 0) (field ns 1) ≡ true → field ns 0 * field ns 1 ≤ 4096
+  unfolding gridFits cellsIn
   few-cells e = leb-true (field ns 0 * field ns 1) 4096 (and-right (leb 1 (field ns 0) && leb 1 (field ns 1)) (leb (field ns 0 * field ns 1) 4096) e)
 
   pub few-covers : coversTake (field ns 4) ≡ true → field ns 4 ≤ 64
@@ -39,26 +40,26 @@ module _ (ns : List ℕ) where
 
   module _ (two : 2 ≤ length ns) where
     pub no-grid : gridTakes (field ns 0) (field ns 1) ≡ false → Refused 1 0 ≡ screen ns
-    unfolding screen gridFits cells setup
+    unfolding screen setup
     no-grid e = simp (le-ltb (length ns) 2 two, e)
 
     module _ (grid : gridTakes (field ns 0) (field ns 1) ≡ true) where
       pub no-covers : length ns < 5 → Refused 11 (length ns) ≡ screen ns
-      unfolding screen gridFits cells setup
+      unfolding screen setup
       no-covers h = simp (le-ltb (length ns) 2 two, grid, lt-ltb (length ns) 5 h)
 
       module _ (five : 5 ≤ length ns) where
         pub bad-count : coversTake (field ns 4) ≡ false → Refused 3 0 ≡ screen ns
-        unfolding screen gridFits cells setup coverCount
+        unfolding screen setup coverCount
         bad-count e = simp (le-ltb (length ns) 2 two, grid, le-ltb (length ns) 5 five, e)
 
         module _ (covers : coversTake (field ns 4) ≡ true) where
           pub cut-off : hasAll (length ns) (needs ns) ≡ false → Refused 11 (length ns) ≡ screen ns
-          unfolding screen gridFits cells setup coverCount isComplete daysFrom cellsFrom cellCount
+          unfolding screen setup coverCount isComplete daysFrom cellsFrom cellCount
           cut-off e = simp (le-ltb (length ns) 2 two, grid, le-ltb (length ns) 5 five, covers, e)
 
           pub is-ready : hasAll (length ns) (needs ns) ≡ true → Ready (field ns 0 * field ns 1) ≡ screen ns
-          unfolding screen gridFits cells setup coverCount isComplete daysFrom cellsFrom cellCount
+          unfolding screen setup coverCount isComplete daysFrom cellsFrom cellCount
           is-ready e = simp (le-ltb (length ns) 2 two, grid, le-ltb (length ns) 5 five, covers, e)
 
 pub ready : (ns : List ℕ) (k : ℕ) → screen ns ≡ Ready k → Complete ns k

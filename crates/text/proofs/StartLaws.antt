@@ -7,17 +7,15 @@ use lib.ListN.{length, take, replicate}
 use Rattle.theory.specs.Lists.{made}
 use Rattle.theory.proofs.ListLaws.{made-length}
 use Rattle.paper.specs.Day.{Fresh, freshOf}
-use Rattle.paper.specs.Refusals.{Verdict, accepted, refused, numberOf, placeOf}
+use Rattle.paper.specs.Refusals.{Verdict, accepted, refused, Refusal}
 use Rattle.paper.specs.Setup as paper
 use Rattle.paper.specs.State.{State}
-use Rattle.records.specs.Calls.{setupOf}
-use Rattle.records.specs.declared.answers.Setup.{Setup}
+use Rattle.records.specs.Grids.{setupAs}
+use Rattle.records.specs.declared.grids.Grid.{Grid}
+use Rattle.records.specs.declared.grids.Season.{Season}
 use Rattle.text.specs.Laying.{Spaced, Laid}
-use Rattle.text.specs.Lines.{refusedLine}
 use Rattle.text.specs.Program.{field, coverCount, cellCount, cellsFrom, daysFrom, dayCount, dayAt, setup, refusal, noResults, daysText, freshText, startText, runText}
-use Rattle.text.specs.Refusals.{saidOf}
 use Rattle.text.specs.Run.{mostText, Coded, Complete, Lent, DaysReady}
-use Rattle.text.specs.declared.refusals.Spoken.the-variants.{Accepted, Refused}
 use Rattle.text.proofs.OneDayLaws.{zeros, part-length}
 
 pub five : (ns : List ℕ) → daysFrom ns ≤ length ns → 5 ≤ length ns
@@ -62,11 +60,14 @@ module _
     (laid : Laid ns covers direction cover group water)
     (lent : Lent ns soil snow output)
   where
-    abbrev grid : Setup
-    grid = record { width = field ns 0; height = field ns 1; first = field ns 2; last = field ns 3 }
+    abbrev grid : Grid
+    grid = record { width = field ns 0; height = field ns 1 }
+
+    abbrev season : Season
+    season = record { first = field ns 2; last = field ns 3 }
 
     abbrev here : paper.Setup
-    here = setupOf grid covers direction cover group water
+    here = setupAs grid season covers direction cover group water
 
     table-length : length covers ≡ 16 * coverCount ns
     unfolding setup
@@ -90,10 +91,8 @@ module _
     same-setup : here ≡ setup ns
     unfolding setup
     same-setup = λ k. record {
-      width = field ns 0;
-      height = field ns 1;
-      first = field ns 2;
-      last = field ns 3;
+      grid = setup ns .grid;
+      season = setup ns .season;
       covers = laid .table k;
       direction = laid .directions k;
       cover = laid .codes k;
@@ -111,23 +110,16 @@ module _
       of-setup v q = q ∙ (λ k. freshOf (same-setup k) (lent .soils k) (lent .snows k))
 
       pub start-refused :
-          (v : Verdict) (number place : ℕ) → record { verdict = v; state = st } ≡ freshOf here soil snow → saidOf v ≡ Refused number place
-          → runText ns ≡ refusedLine number place
-      unfolding runText startText freshText refusal saidOf
-      start-refused accepted number place q e = absurd (let z : _≡_ {A = ℕ} 0 1 = cc in omega arith)
-      start-refused (refused why) number place q e =
-          let n : numberOf why ≡ number = cc in
-          let p : placeOf why ≡ place = cc in
-          sym (ap (freshText (setup ns) (made (dayCount ns) (dayAt ns)) first) (ap (λ (f : Fresh). f .verdict) (of-setup (refused why) q)))
-          ∙ rw (n, p) refl
+          (v : Verdict) (why : Refusal) → record { verdict = v; state = st } ≡ freshOf here soil snow → v ≡ refused why
+          → runText ns ≡ refusal why
+      unfolding runText startText freshText
+      start-refused v why q e =
+          ap (freshText (setup ns) (made (dayCount ns) (dayAt ns)) first) (sym (ap (λ (f : Fresh). f .verdict) (of-setup v q)) ∙ e)
 
       pub start-runs :
-          (v : Verdict) → record { verdict = v; state = st } ≡ freshOf here soil snow → saidOf v ≡ Accepted
+          (v : Verdict) → record { verdict = v; state = st } ≡ freshOf here soil snow → v ≡ accepted
           → runText ns ≡ daysText here st (noResults (length direction)) 0 (made (dayCount ns) (dayAt ns))
-      unfolding runText startText freshText saidOf paper.cells cellCount setup
-      start-runs accepted q e =
-          sym (
-          (λ k. daysText (same-setup k) (of-setup accepted q k .state) (noResults (each k)) 0 (made (dayCount ns) (dayAt ns)))
-          ∙ ap (freshText (setup ns) (made (dayCount ns) (dayAt ns)) first) (ap (λ (f : Fresh). f .verdict) (of-setup accepted q))
-          )
-      start-runs (refused why) q e = absurd (let z : _≡_ {A = ℕ} 0 1 = cc in omega arith)
+      unfolding runText startText freshText paper.cellsIn cellCount setup
+      start-runs v q e =
+          ap (freshText (setup ns) (made (dayCount ns) (dayAt ns)) first) (sym (ap (λ (f : Fresh). f .verdict) (of-setup v q)) ∙ e)
+          ∙ sym (λ k. daysText (same-setup k) (of-setup v q k .state) (noResults (each k)) 0 (made (dayCount ns) (dayAt ns)))

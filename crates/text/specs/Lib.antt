@@ -5,6 +5,5 @@ pub mod Program
 pub mod Reader
 pub mod Writing
 pub mod Examples
-pub mod Refusals
 pub mod Laying
 pub mod Run

@@ -54,10 +54,8 @@ module _ (ns : List ℕ) where
   unfoldable pub setup : Setup
   setup =
       record {
-        width = field 0;
-        height = field 1;
-        first = field 2;
-        last = field 3;
+        grid = record { width = field 0; height = field 1 };
+        season = record { first = field 2; last = field 3 };
         covers = made (16 * coverCount) (λ k. field (5 + k));
         direction = made cellCount (λ i. field (cellsFrom + 4 * i));
         cover = made cellCount (λ i. field (cellsFrom + 4 * i + 1));
@@ -120,7 +118,7 @@ runText ns =
 unfoldable pub screen : List ℕ → Screened
 screen ns =
     cond (ltb (length ns) 2) (Refused 11 (length ns))
-    (cond (not (gridFits (setup ns))) (Refused 1 0)
+    (cond (not (gridFits (setup ns .grid))) (Refused 1 0)
     (cond (ltb (length ns) 5) (Refused 11 (length ns))
     (cond (not (within 1 mostCovers (coverCount ns))) (Refused 3 0)
     (cond (not (isComplete ns)) (Refused 11 (length ns)) (Ready (cellCount ns))))))

@@ -3,26 +3,28 @@ ghost use mathlib.Core.Path.{_≡_};
 ghost use Prim.Native.Nat.{_+_, _*_, _≤_};
 ghost use lib.ListN.{length};
 ghost use Rattle.theory.specs.Lists.{made};
-ghost use Rattle.records.specs.Calls.{setupOf, stateOf, dayIn, verdictAs};
-ghost use Rattle.recharge.specs.Settle.{totalsIn};
+ghost use Rattle.records.specs.Grids.{setupAs};
+ghost use Rattle.records.specs.Past.{stateAs};
+ghost use Rattle.records.specs.Days.{dayAs};
+ghost use Rattle.records.specs.Verdicts.{verdictAs};
+ghost use Rattle.records.specs.Answers.{totalsAs};
 ghost use Rattle.text.specs.Program.{daysFrom, dayCount, dayAt, noResults, daysText};
 ghost use Rattle.text.specs.Run.{Coded, DaysReady, Tells, mostText};
 ghost use Rattle.text.specs.Writing.{Wrote};
 ghost use Rattle.text.specs.Lines.{dayLine};
 use crate::fields::tenths;
-use crate::refusals::Spoken;
-use crate::refusals::said;
+use crate::refusals::refusal;
 use crate::writing::ended;
 use crate::writing::line;
-use crate::writing::refused;
-use recharge::Answer;
-use recharge::DayRecord;
-use recharge::Depth;
-use recharge::Last;
-use recharge::Memory;
-use recharge::Setup;
-use recharge::TenthF;
-use recharge::Totals;
+use records::Answer;
+use records::DayRecord;
+use records::Depth;
+use records::Grid;
+use records::Past;
+use records::Season;
+use records::TenthF;
+use records::Totals;
+use records::Verdict;
 use records::wide;
 
 // The place after what a day printed, and whether the run goes on.
@@ -34,7 +36,7 @@ pub(crate) enum Told {
 // The numbers of day k.
 fn day_at(numbers: &[u32], from: usize, k: usize) -> DayRecord
     requires { ⌜ Coded (now numbers) × (from ≡ daysFrom (now numbers)) × (from + 7 * k + 7 ≤ length (now numbers)) ⌝ }
-    ensures { λ r. ⌜ dayIn r ≡ dayAt (now (numbers .entry)) k ⌝ }
+    ensures { λ r. ⌜ dayAs r ≡ dayAt (now (numbers .entry)) k ⌝ }
 {
     let at = from + 7 * k;
     DayRecord {
@@ -50,7 +52,7 @@ fn day_at(numbers: &[u32], from: usize, k: usize) -> DayRecord
 
 fn day_line(output: &mut [u8], at: usize, serial: u32, totals: Totals) -> usize
     requires { ⌜ at + 168 ≤ length (now output) ⌝ }
-    ensures { λ r. ⌜ Wrote 168 at (dayLine serial (totalsIn totals)) (now (output .entry)) (now (output .exit)) r ⌝ }
+    ensures { λ r. ⌜ Wrote 168 at (dayLine serial (totalsAs totals)) (now (output .entry)) (now (output .exit)) r ⌝ }
 {
     let gross = totals.gross.0;
     let intercepted = totals.intercepted.0;
@@ -76,13 +78,13 @@ fn day_line(output: &mut [u8], at: usize, serial: u32, totals: Totals) -> usize
 // A day's line, or its refusal.
 fn tell(output: &mut [u8], at: usize, serial: u32, answer: Answer) -> Told
     requires { ⌜ at + 168 ≤ length (now output) ⌝ }
-    ensures { λ r. ⌜ Tells at serial (totalsIn (answer .totals)) (verdictAs (answer .outcome)) (now (output .entry)) (now (output .exit)) r ⌝ }
+    ensures { λ r. ⌜ Tells at serial (totalsAs (answer .totals)) (verdictAs (answer .verdict)) (now (output .entry)) (now (output .exit)) r ⌝ }
 {
-    let outcome = answer.outcome;
+    let verdict = answer.verdict;
     let totals = answer.totals;
-    match said(outcome) {
-        Spoken::Accepted => Told::More(day_line(output, at, serial, totals)),
-        Spoken::Refused(number, place) => Told::Last(refused(output, at, number, place)),
+    match verdict {
+        Verdict::Accepted => Told::More(day_line(output, at, serial, totals)),
+        Verdict::Refused(why) => Told::Last(refusal(output, at, why)),
     }
 }
 
@@ -91,7 +93,8 @@ fn tell(output: &mut [u8], at: usize, serial: u32, answer: Answer) -> Told
 pub(crate) fn days(
     numbers: &[u32],
     from: usize,
-    setup: Setup,
+    grid: Grid,
+    season: Season,
     covers: &[u32],
     direction: &[u32],
     cover: &[u32],
@@ -99,12 +102,11 @@ pub(crate) fn days(
     water: &[u32],
     soil: &mut [u32],
     snow: &mut [u32],
-    memory: Memory,
-    last: Last,
+    past: Past,
     output: &mut [u8],
 ) -> usize
     requires { ⌜ DaysReady (now numbers) from (now direction) (now output) ⌝ }
-    ensures { λ r. ⌜ Wrote mostText 0 (daysText (setupOf setup (now (covers .entry)) (now (direction .entry)) (now (cover .entry)) (now (group .entry)) (now (water .entry))) (stateOf (now (soil .entry)) (now (snow .entry)) memory last) (noResults (length (now (direction .entry)))) 0 (made (dayCount (now (numbers .entry))) (dayAt (now (numbers .entry))))) (now (output .entry)) (now (output .exit)) r ⌝ }
+    ensures { λ r. ⌜ Wrote mostText 0 (daysText (setupAs grid season (now (covers .entry)) (now (direction .entry)) (now (cover .entry)) (now (group .entry)) (now (water .entry))) (stateAs (now (soil .entry)) (now (snow .entry)) past) (noResults (length (now (direction .entry)))) 0 (made (dayCount (now (numbers .entry))) (dayAt (now (numbers .entry))))) (now (output .entry)) (now (output .exit)) r ⌝ }
 {
     let n = direction.len();
     let count = (numbers.len() - from) / 7;
@@ -113,15 +115,15 @@ pub(crate) fn days(
     let mut evapotranspired = [0u32; 4096];
     let mut recharged = [0u32; 4096];
     let mut rejected = [0u32; 4096];
-    let mut memory = memory;
-    let mut last = last;
+    let mut past = past;
     let mut at = 0;
     let mut done: u64 = 0;
     let mut k = 0;
     while k < count {
         let day = day_at(numbers, from, k);
         let answer = recharge::day(
-            setup,
+            grid,
+            season,
             covers,
             direction,
             cover,
@@ -134,16 +136,14 @@ pub(crate) fn days(
             &mut evapotranspired[..n],
             &mut recharged[..n],
             &mut rejected[..n],
-            memory,
-            last,
+            past,
             day,
         );
         match tell(output, at, day.serial, answer) {
             Told::More(next) => at = next,
             Told::Last(next) => return next,
         }
-        memory = answer.memory;
-        last = answer.last;
+        past = answer.past;
         done += 1;
         k += 1;
     }

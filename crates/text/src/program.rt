@@ -9,7 +9,7 @@ use crate::reading::read;
 use crate::screening::Screened;
 use crate::screening::TEXT;
 use crate::screening::screen;
-use crate::screening::wide;
+use crate::screening::units;
 use crate::starting::started;
 use crate::writing::refused;
 
@@ -47,7 +47,7 @@ fn text(input: &[u8], output: &mut [u8]) -> usize
     let mut numbers = [0u32; 32768];
     match read(input, &mut numbers) {
         Form::Whole(count) => screened(&numbers[..count], output),
-        Form::Broken(count) => refused(output, 0, TEXT, wide(count)),
+        Form::Broken(count) => refused(output, 0, TEXT, units(count)),
     }
 }
 

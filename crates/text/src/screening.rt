@@ -4,7 +4,7 @@ ghost use mathlib.Core.Path.{_≡_};
 ghost use Prim.Native.Nat.{_-_, _*_, _%_};
 ghost use lib.Dec.{leb, eqb};
 ghost use Rattle.text.specs.Program.{screen as screened};
-use records::Setup;
+use records::Grid;
 use records::place;
 
 pub(crate) enum Screened {
@@ -16,25 +16,12 @@ pub(crate) enum Screened {
 
 pub(crate) const TEXT: u64 = 11;
 
-// The season has no say in it.
-fn grid_fits(width: u32, height: u32) -> bool
-    ensures { λ r. ⌜ r ≡ (leb 1 width && leb 1 height && leb (width * height) 4096) ⌝ }
-{
-    records::grid_fits(Setup {
-        width,
-        height,
-        first: 1,
-        last: 1,
-    })
-}
+const MOST_COVERS: u32 = 64;
 
 fn covers_fit(count: u32) -> bool
     ensures { λ r. ⌜ r ≡ (leb 1 count && leb count 64) ⌝ }
 {
-    if count < 1 {
-        return false;
-    }
-    count <= 64
+    (1 <= count) & (count <= MOST_COVERS)
 }
 
 // No number is missing, and the last day is not cut off.
@@ -47,7 +34,7 @@ fn complete(count: usize, needed: usize) -> bool
     (count - needed) % 7 == 0
 }
 
-pub(crate) fn wide(count: usize) -> u64
+pub(crate) fn units(count: usize) -> u64
     ensures { λ r. ⌜ r ≡ count ⌝ }
 {
     count as u64
@@ -58,23 +45,24 @@ pub(crate) fn screen(numbers: &[u32]) -> Screened
 {
     let count = numbers.len();
     if count < 2 {
-        return Screened::Refused(TEXT, wide(count));
+        return Screened::Refused(TEXT, units(count));
     }
     let width = numbers[0];
     let height = numbers[1];
-    if !grid_fits(width, height) {
+    let grid = Grid { width, height };
+    if !grid.fits() {
         return Screened::Refused(1, 0);
     }
     if count < 5 {
-        return Screened::Refused(TEXT, wide(count));
+        return Screened::Refused(TEXT, units(count));
     }
     let covers = numbers[4];
     if !covers_fit(covers) {
         return Screened::Refused(3, 0);
     }
-    let cells = place(width * height);
+    let cells = grid.cells();
     if !complete(count, 5 + 16 * place(covers) + 4 * cells) {
-        return Screened::Refused(TEXT, wide(count));
+        return Screened::Refused(TEXT, units(count));
     }
     Screened::Ready(cells)
 }

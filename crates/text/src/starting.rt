@@ -7,10 +7,10 @@ ghost use Rattle.text.specs.Run.{Coded, Complete, Lent, mostText};
 ghost use Rattle.text.specs.Writing.{Wrote};
 use crate::days::days;
 use crate::fields::lay;
-use crate::refusals::Spoken;
-use crate::refusals::said;
-use crate::writing::refused;
-use recharge::Setup;
+use crate::refusals::refusal;
+use records::Grid;
+use records::Season;
+use records::Verdict;
 use records::place;
 
 // The fresh state, and the days from it on; or its refusal.
@@ -28,24 +28,34 @@ fn begun(
     requires { ⌜ Laid (now numbers) (now covers) (now direction) (now cover) (now group) (now water) × Lent (now numbers) (now soil) (now snow) (now output) ⌝ }
     ensures { λ r. ⌜ Wrote mostText 0 (runText (now (numbers .entry))) (now (output .entry)) (now (output .exit)) r ⌝ }
 {
-    let setup = Setup {
-        width: numbers[0],
-        height: numbers[1],
-        first: numbers[2],
-        last: numbers[3],
-    };
+    let width = numbers[0];
+    let height = numbers[1];
+    let first = numbers[2];
+    let last = numbers[3];
+    let grid = Grid { width, height };
+    let season = Season { first, last };
     let from = 5 + covers.len() + 4 * direction.len();
-    let start = recharge::fresh(setup, covers, direction, cover, group, water, soil, snow);
-    let outcome = start.outcome;
-    match said(outcome) {
-        Spoken::Refused(number, place) => refused(output, 0, number, place),
-        Spoken::Accepted => {
-            let memory = start.memory;
-            let last = start.last;
+    let start = recharge::fresh(
+        grid,
+        season,
+        covers,
+        direction,
+        cover,
+        group,
+        water,
+        soil,
+        snow,
+    );
+    let verdict = start.verdict;
+    match verdict {
+        Verdict::Refused(why) => refusal(output, 0, why),
+        Verdict::Accepted => {
+            let past = start.past;
             days(
                 numbers,
                 from,
-                setup,
+                grid,
+                season,
                 covers,
                 direction,
                 cover,
@@ -53,8 +63,7 @@ fn begun(
                 water,
                 soil,
                 snow,
-                memory,
-                last,
+                past,
                 output,
             )
         }

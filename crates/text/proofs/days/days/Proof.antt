@@ -10,19 +10,21 @@ use borrow.Author.Needs.{needs}
 use lib.ListN.{length}
 use lib.Seq.{length-take-le}
 use Rattle.theory.specs.Lists.{made}
-use Rattle.records.specs.Calls.{setupOf, stateOf, dayIn}
+use Rattle.records.specs.Grids.{setupAs}
+use Rattle.records.specs.Past.{stateAs}
+use Rattle.records.specs.Days.{dayAs}
 use Rattle.text.specs.Program.{dayCount, dayAt, noResults}
 use Rattle.text.proofs.OneDayLaws.{parts, Room, no-results, room, left}
 use Rattle.text.proofs.RunLaws.{Underway, underway-first, day-count, all-told, told-last, told-more}
 
 abbrev Inv-loop : tie.InvT-loop
-Inv-loop numbers from setup covers direction cover group water soil₀ snow₀ output₀ n count intercepted₀ outflow₀ evapotranspired₀ recharged₀ rejected₀ memory₀ last₀ at₀ done₀ k₀ soil snow output intercepted outflow evapotranspired recharged rejected memory last at done k =
+Inv-loop numbers from grid season covers direction cover group water soil₀ snow₀ output₀ n count intercepted₀ outflow₀ evapotranspired₀ recharged₀ rejected₀ past₀ at₀ done₀ k₀ soil snow output intercepted outflow evapotranspired recharged rejected past at done k =
     (k ≤ count) × (length soil ≡ length soil₀) × (length snow ≡ length snow₀) × Room n intercepted outflow evapotranspired recharged rejected
-    × Underway (setupOf setup covers direction cover group water) (stateOf soil₀ snow₀ memory₀ last₀) (noResults n) (made (dayCount numbers) (dayAt numbers))
-    output₀ output (stateOf soil snow memory last) (parts n intercepted outflow evapotranspired recharged rejected) at done k
+    × Underway (setupAs grid season covers direction cover group water) (stateAs soil₀ snow₀ past₀) (noResults n) (made (dayCount numbers) (dayAt numbers))
+    output₀ output (stateAs soil snow past) (parts n intercepted outflow evapotranspired recharged rejected) at done k
 
 abbrev μ-loop : tie.MeasureT-loop
-μ-loop numbers from setup covers direction cover group water soil₀ snow₀ output₀ n count intercepted₀ outflow₀ evapotranspired₀ recharged₀ rejected₀ memory₀ last₀ at₀ done₀ k₀ soil snow output intercepted outflow evapotranspired recharged rejected memory last at done k =
+μ-loop numbers from grid season covers direction cover group water soil₀ snow₀ output₀ n count intercepted₀ outflow₀ evapotranspired₀ recharged₀ rejected₀ past₀ at₀ done₀ k₀ soil snow output intercepted outflow evapotranspired recharged rejected past at done k =
     count - k
 
 -- the places that the needs name: from a day's telling back to the library's day, its numbers, the loop's head and the start
@@ -95,11 +97,11 @@ enum-known-next-2 c = search needs
 
 same-length : tie.Need-same-length Inv-loop μ-loop
 same-length c = let e = day (c .before .before .before .before .before) in
-    omega (arith, e .day .kept .1 .1 .1 .1 .1 .1 .0, head (date e) .loop .inv .1)
+    omega (arith, e .day .kept .1 .1 .1 .1 .1 .1 .1 .0, head (date e) .loop .inv .1)
 
 same-length-2 : tie.Need-same-length-2 Inv-loop μ-loop
 same-length-2 c = let e = day (c .before .before .before .before .before) in
-    omega (arith, e .day .kept .1 .1 .1 .1 .1 .1 .1 .0, head (date e) .loop .inv .2)
+    omega (arith, e .day .kept .1 .1 .1 .1 .1 .1 .1 .1 .0, head (date e) .loop .inv .2)
 
 same-length-3 : tie.Need-same-length-3 Inv-loop μ-loop
 same-length-3 c = omega (arith, head (date (day (c .before .before .before .before .before))) .loop .inv .4 .long)
@@ -113,7 +115,7 @@ returns c = let told = c .before in
     let tell = told .before .before .before .before in
     let at = date (day tell) in
     told-last (start (head at) .args .numbers .now) _ _ _ _ _ _ _ _ _ _ (start (head at) .pre .coded) (head at .loop .inv .4)
-    (dayIn (at .day-at .result)) (at .day-at .ensures) (more at) _ _ _ _ _ _ _ (day tell .day .ensures) (tell .tell .ensures) (told .next2 .given .1)
+    (dayAs (at .day-at .result)) (at .day-at .ensures) (more at) _ _ _ _ _ _ _ (day tell .day .ensures) (tell .tell .ensures) (told .next2 .given .1)
 
 add-done : tie.Need-add-done Inv-loop μ-loop
 add-done c = let at = date (day (c .before .before .before .before .before .before)) in
@@ -128,17 +130,17 @@ loop-less c = omega (arith, date (day (c .before .before .before .before .before
 loop-again : tie.Need-loop-again Inv-loop μ-loop
 loop-again c = let told = c .before .before in
     let tell = told .before .before .before .before in
-    let kept = day tell .day .kept .1 .1 .1 .1 .1 .1 in
+    let kept = day tell .day .kept .1 .1 .1 .1 .1 .1 .1 in
     let at = date (day tell) in
     let inv = head at .loop .inv in
-    let new = day tell .day .last .1 .1 .1 .1 .1 .1 .1 .1 in
+    let new = day tell .day .last .1 .1 .1 .1 .1 .1 .1 .1 .1 in
     let l = left _ _ _ _ _ _ (new .0) (new .1 .0) (new .1 .1 .0) (new .1 .1 .1 .0) (new .1 .1 .1 .1 .0) (inv .3) (kept .1 .1 .0) (kept .1 .1 .1 .0) (kept .1 .1 .1 .1 .0) (kept .1 .1 .1 .1 .1 .0) (kept .1 .1 .1 .1 .1 .1 .0) in (
       omega (arith, at .before .loop-test .taken),
       omega (arith, inv .1, kept .0),
       omega (arith, inv .2, kept .1 .0),
       l .0,
       told-more (start (head at) .args .numbers .now) _ _ _ _ _ _ _ _ _ _ (start (head at) .pre .coded) (inv .4)
-          (dayIn (at .day-at .result)) (at .day-at .ensures) (more at) _ _ _ _ _ _ _ _ (l .1) (day tell .day .ensures) (tell .tell .ensures) (told .next .given .1),
+          (dayAs (at .day-at .result)) (at .day-at .ensures) (more at) _ _ _ _ _ _ _ _ (l .1) (day tell .day .ensures) (tell .tell .ensures) (told .next .given .1),
     )
 
 ended-requires : tie.Need-ended-requires Inv-loop μ-loop

@@ -40,8 +40,8 @@ screened-requires c κs = let told = c .before .before .before in
 enum-known-count-2 : tie.Need-enum-known-count-2
 enum-known-count-2 c = search needs
 
-wide-requires : tie.Need-wide-requires
-wide-requires c κs = search needs
+units-requires : tie.Need-units-requires
+units-requires c κs = search needs
 
 refused-requires-2 : tie.Need-refused-requires-2
 refused-requires-2 c κs = search needs
@@ -63,7 +63,7 @@ returns-3 c = let refused = c .before .before in
     let told = refused .before .before .before .before in
     let read = told .before .before in
     whole-text
-    (read-broken _ _ _ _ (read .read .ensures) (read .before .before .if1 .left) (told .count2 .given .1) ∙ ap (refusedLine 11) (sym (refused .before .wide .ensures)))
+    (read-broken _ _ _ _ (read .read .ensures) (read .before .before .if1 .left) (told .count2 .given .1) ∙ ap (refusedLine 11) (sym (refused .before .units .ensures)))
     (omega arith)
     (refused .refused2 .ensures)
 
@@ -80,7 +80,7 @@ text-spec =
     slice-aggregate-screened
     screened-requires
     enum-known-count-2
-    wide-requires
+    units-requires
     refused-requires-2
     same-length-2
     returns-2

@@ -2,16 +2,17 @@
 use borrow.Author.Needs.{needs}
 use Rattle.text.proofs.starting.begun.Statement.{statement}
 use Rattle.text.proofs.starting.begun.Tie as tie
-use mathlib.Core.Path.{sym, _∙_}
+use mathlib.Core.Path.{ap}
 use Prim.Native.Nat.{_≤_}
 use native.Mathlib.Omega.{arith}
 use lib.ListN.{length}
+use Rattle.records.specs.Verdicts.{verdictAs}
 use Rattle.text.proofs.PrintedLaws.{whole-text}
 use Rattle.text.proofs.StartLaws.{five, days-ready, start-refused, start-runs}
 
--- the places that the needs name: from what was said back to the fresh state, the first number read and the start
-abbrev fresh : tie.After-said → tie.After-fresh
-fresh said = said .before .before .before .before .before
+-- the places that the needs name: from the stores after the fresh state back to it, the first number read and the start
+abbrev fresh : tie.After-slice-known5 → tie.After-fresh
+fresh lent = lent .before .before .before .before
 
 abbrev number : tie.After-fresh → tie.After-shared-slice-known7
 number fresh = fresh .before .before .before .before .before .before
@@ -22,80 +23,41 @@ start number = number .before .before .before .before .before .before .before .b
 enough : (number : tie.After-shared-slice-known7) → 5 ≤ length (start number .args .numbers .now)
 enough number = five _ (start number .pre .1 .numbers)
 
-shared-slice-read-t19 : tie.Need-shared-slice-read-t19
-shared-slice-read-t19 c = omega (arith, enough c)
+shared-slice-read-width : tie.Need-shared-slice-read-width
+shared-slice-read-width c = omega (arith, enough c)
 
-shared-slice-read-t21 : tie.Need-shared-slice-read-t21
-shared-slice-read-t21 c = omega (arith, enough (c .before))
+shared-slice-read-height : tie.Need-shared-slice-read-height
+shared-slice-read-height c = omega (arith, enough (c .before))
 
-shared-slice-read-t23 : tie.Need-shared-slice-read-t23
-shared-slice-read-t23 c = omega (arith, enough (c .before .before))
+shared-slice-read-first : tie.Need-shared-slice-read-first
+shared-slice-read-first c = omega (arith, enough (c .before .before))
 
-shared-slice-read-t25 : tie.Need-shared-slice-read-t25
-shared-slice-read-t25 c = omega (arith, enough (c .before .before .before))
+shared-slice-read-last : tie.Need-shared-slice-read-last
+shared-slice-read-last c = omega (arith, enough (c .before .before .before))
 
-add-from : tie.Need-add-from
-add-from c = search needs
-
-mul-from : tie.Need-mul-from
-mul-from c = search needs
-
-add-from-2 : tie.Need-add-from-2
-add-from-2 c = search needs
-
-fresh-requires : tie.Need-fresh-requires
-fresh-requires c κs = search needs
-
-said-requires : tie.Need-said-requires
-said-requires c κs = search needs
-
-enum-known-number : tie.Need-enum-known-number
-enum-known-number c = search needs
-
-refused-requires : tie.Need-refused-requires
-refused-requires c κs = omega (arith, start (number (fresh (c .before .before .before .before))) .pre .1 .room)
-
-enum-told : tie.Need-enum-told
-enum-told c = search needs
+refusal-requires : tie.Need-refusal-requires
+refusal-requires c κs = omega (arith, start (number (fresh (c .before .before .before .before))) .pre .1 .room)
 
 days-requires : tie.Need-days-requires
 days-requires c κs = let p = start (number (fresh (c .before .before .before .before .before .before))) .pre in days-ready _ _ _ _ _ _ _ _ _ (p .0) (p .1)
 
-same-length : tie.Need-same-length
-same-length c = search needs
-
-same-length-2 : tie.Need-same-length-2
-same-length-2 c = search needs
-
-same-length-3 : tie.Need-same-length-3
-same-length-3 c = search needs
-
 returns : tie.Need-returns
-returns c = let refused = c .before .before in
-    let told = refused .before .before .before in
-    let said = told .before .before in
-    let p = start (number (fresh said)) .pre in
+returns c = let refusal = c .before .before in
+    let told = refusal .before .before .before in
+    let lent = told .before .before in
+    let p = start (number (fresh lent)) .pre in
     whole-text
-    (start-refused _ _ _ _ _ _ _ _ _ (p .0) (p .1) _ _ _ _ (fresh said .fresh .ensures) (sym (said .said .ensures) ∙ told .number .given .1))
+    (start-refused _ _ _ _ _ _ _ _ _ (p .0) (p .1) _ _ _ (fresh lent .fresh .ensures) (ap verdictAs (told .verdict .given .1)))
     (omega arith)
-    (refused .refused .ensures)
-
-same-length-4 : tie.Need-same-length-4
-same-length-4 c = search needs
-
-same-length-5 : tie.Need-same-length-5
-same-length-5 c = search needs
-
-same-length-6 : tie.Need-same-length-6
-same-length-6 c = search needs
+    (refusal .refusal .ensures)
 
 returns-2 : tie.Need-returns-2
 returns-2 c = let days = c .before .before .before .before .before .before in
     let told = days .before .before .before .before .before in
-    let said = told .before .before in
-    let p = start (number (fresh said)) .pre in
+    let lent = told .before .before in
+    let p = start (number (fresh lent)) .pre in
     whole-text
-    (start-runs _ _ _ _ _ _ _ _ _ (p .0) (p .1) _ _ (fresh said .fresh .ensures) (sym (said .said .ensures) ∙ told .enum-told .given .1))
+    (start-runs _ _ _ _ _ _ _ _ _ (p .0) (p .1) _ _ (fresh lent .fresh .ensures) (ap verdictAs (told .enum-told .given .1)))
     (omega arith)
     (days .days .ensures)
 
@@ -103,24 +65,23 @@ pub begun-spec : {M : Type 1} → statement M
 begun-spec =
     tie.close
     (tie.spec
-    shared-slice-read-t19
-    shared-slice-read-t21
-    shared-slice-read-t23
-    shared-slice-read-t25
-    add-from
-    mul-from
-    add-from-2
-    fresh-requires
-    said-requires
-    enum-known-number
-    refused-requires
-    enum-told
+    shared-slice-read-width
+    shared-slice-read-height
+    shared-slice-read-first
+    shared-slice-read-last
+    (λ c. search needs)
+    (λ c. search needs)
+    (λ c. search needs)
+    (λ c κs. search needs)
+    (λ c. search needs)
+    refusal-requires
+    (λ c. search needs)
     days-requires
-    same-length
-    same-length-2
-    same-length-3
+    (λ c. search needs)
+    (λ c. search needs)
+    (λ c. search needs)
     returns
-    same-length-4
-    same-length-5
-    same-length-6
+    (λ c. search needs)
+    (λ c. search needs)
+    (λ c. search needs)
     returns-2)
