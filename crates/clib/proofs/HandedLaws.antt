@@ -11,10 +11,10 @@ use borrow.Author.Tests.{eq-eqb, eqb-true}
 use Rattle.theory.proofs.Cases.{byCases, and-both, and-first, and-second, cond-true, cond-false}
 use Rattle.paper.specs.Setup.{Setup}
 use Rattle.paper.specs.State.{Memory, State, Day, Last, none, serial, noRain, remembered, freshState}
-use Rattle.paper.specs.Refusals.{Verdict, accepted, refused, lent, numberOf, placeOf}
+use Rattle.paper.specs.Refusals.{Verdict, accepted, refused, lent, numberOf, placeOf, verdictNumber, verdictPlace}
 use Rattle.paper.specs.Day.{Fresh, freshAs, freshOf, Outcome, Results, verdictOf, outcomeAs, nextState, dayOf}
 use Rattle.clib.specs.Narrow.{narrow, Narrow}
-use Rattle.clib.specs.Numbers.{numberIn, placeIn, returned, memoryFrom, memoryList, noSerial, lastFrom, lastNumber, lastList, totalsList}
+use Rattle.clib.specs.Numbers.{returned, memoryFrom, memoryList, noSerial, lastFrom, lastNumber, lastList, totalsList}
 use Rattle.clib.specs.Handed.{
   Stores,
   storesFrom,
@@ -75,29 +75,29 @@ module _ (s : Setup) (soil snow : List ℕ) where
   fresh-verdict accepted = refl
   fresh-verdict (refused why) = refl
 
-  fresh-memory : (v : Verdict) → freshAs s soil snow v .state .memory ≡ noRain
+  fresh-memory : (v : Verdict) → freshAs s soil snow v .state .past .memory ≡ noRain
   unfolding freshAs freshState
   fresh-memory accepted = refl
   fresh-memory (refused why) = refl
 
-  pub fresh-near : {o : Fresh} → o ≡ freshOf s soil snow → placeIn (o .verdict) ≤ 4096
+  pub fresh-near : {o : Fresh} → o ≡ freshOf s soil snow → verdictPlace (o .verdict) ≤ 4096
   unfolding freshOf
   fresh-near e = rw (ap (λ (o : Fresh). o .verdict) e ∙ fresh-verdict _) (setup-near s _)
 
-  pub fresh-narrow : {o : Fresh} → o ≡ freshOf s soil snow → Narrow (o .state .memory)
+  pub fresh-narrow : {o : Fresh} → o ≡ freshOf s soil snow → Narrow (o .state .past .memory)
   unfolding freshOf
   fresh-narrow e =
-      rw (ap (λ (o : Fresh). o .state .memory) e ∙ fresh-memory _)
+      rw (ap (λ (o : Fresh). o .state .past .memory) e ∙ fresh-memory _)
       (record { oldest = omega arith; fourth = omega arith; third = omega arith; second = omega arith; yesterday = omega arith })
 
 pub fresh-lent : (s : Setup) (l : Stores) → keepable l ≡ false → record { number = 8589934592; stores = l } ≡ freshFrom s l
-unfolding freshFrom begunIf returned numberIn placeIn numberOf placeOf
+unfolding freshFrom begunIf returned verdictNumber verdictPlace numberOf placeOf
 fresh-lent s l e = rw e refl
 
 pub fresh-handed : (s : Setup) (l : Stores) → keepable l ≡ true
     → {o : Fresh} → o ≡ freshOf s (l .soil) (l .snow)
     → {number : ℕ} → number ≡ returned (o .verdict)
-    → {memory last : List ℕ} → memory ≡ memoryList (o .state .memory) → last ≡ lastList (o .state .last)
+    → {memory last : List ℕ} → memory ≡ memoryList (o .state .past .memory) → last ≡ lastList (o .state .past .last)
     → begun number (o .state .soil) (o .state .snow) memory last ≡ freshFrom s l
 unfolding freshFrom begunIf begunAs storesOf
 fresh-handed s l fits {o} e number memory last =
@@ -110,37 +110,37 @@ module _ (s : Setup) (st : State) (r : Results) (d : Day) where
   day-verdict accepted = refl
   day-verdict (refused why) = refl
 
-  pub day-placed : {o : Outcome} → o ≡ dayOf s st r d → placeIn (o .verdict) ≤ 4096
+  pub day-placed : {o : Outcome} → o ≡ dayOf s st r d → verdictPlace (o .verdict) ≤ 4096
   unfolding dayOf verdictOf
   day-placed e = rw (ap (λ (o : Outcome). o .verdict) e ∙ day-verdict _) (day-near s _ st d)
 
-  narrow-as : (v : Verdict) → Narrow (st .memory) → d .gross < narrow → Narrow (outcomeAs s st r d v .state .memory)
+  narrow-as : (v : Verdict) → Narrow (st .past .memory) → d .gross < narrow → Narrow (outcomeAs s st r d v .state .past .memory)
   unfolding outcomeAs nextState remembered
   narrow-as accepted m g =
       record { oldest = m .fourth; fourth = m .third; third = m .second; second = m .yesterday; yesterday = g }
   narrow-as (refused why) m g = m
 
-  pub day-narrow : {o : Outcome} → o ≡ dayOf s st r d → Narrow (st .memory) → d .gross < narrow → Narrow (o .state .memory)
+  pub day-narrow : {o : Outcome} → o ≡ dayOf s st r d → Narrow (st .past .memory) → d .gross < narrow → Narrow (o .state .past .memory)
   unfolding dayOf
-  day-narrow e m g = rw (ap (λ (o : Outcome). o .state .memory) e) (narrow-as _ m g)
+  day-narrow e m g = rw (ap (λ (o : Outcome). o .state .past .memory) e) (narrow-as _ m g)
 
 module _ (s : Setup) (l : Stores) (r : Results) (totals : List ℕ) (d : Day) where
   pub day-lent : keepable l ≡ false → handed 8589934592 l r totals ≡ dayGives s l r totals d
-  unfolding dayGives handedIf returned numberIn placeIn numberOf placeOf
+  unfolding dayGives handedIf returned verdictNumber verdictPlace numberOf placeOf
   day-lent e = rw (and-first (keepable l) (eqb (length totals) 7) e) refl
 
   pub day-lent-totals : eqb (length totals) 7 ≡ false → handed 8589934592 l r totals ≡ dayGives s l r totals d
-  unfolding dayGives handedIf returned numberIn placeIn numberOf placeOf
+  unfolding dayGives handedIf returned verdictNumber verdictPlace numberOf placeOf
   day-lent-totals e = rw (and-second (keepable l) (eqb (length totals) 7) e) refl
 
   pub day-handed : keepable l ≡ true → length totals ≡ 7
-      → {m : Memory} {x : Last} {z : Day} {o : Outcome} → o ≡ dayOf s (record { soil = l .soil; snow = l .snow; memory = m; last = x }) r z
+      → {m : Memory} {x : Last} {z : Day} {o : Outcome} → o ≡ dayOf s (record { soil = l .soil; snow = l .snow; past = record { memory = m; last = x } }) r z
       → z ≡ d → m ≡ memoryFrom (l .memory) → x ≡ lastFrom (l .last)
       → {number : ℕ} → number ≡ returned (o .verdict)
-      → {memory last sums : List ℕ} → memory ≡ memoryList (o .state .memory) → last ≡ lastList (o .state .last) → sums ≡ totalsList (o .totals)
+      → {memory last sums : List ℕ} → memory ≡ memoryList (o .state .past .memory) → last ≡ lastList (o .state .past .last) → sums ≡ totalsList (o .totals)
       → handed number (storesFrom (o .state .soil) (o .state .snow) memory last) (o .results) sums ≡ dayGives s l r totals d
   unfolding dayGives handedIf handedAs storesOf stateFrom
   day-handed kept seven {m} {x} {z} {o} e days remembers serials number memory last sums =
       rw (and-both (keepable l) (eqb (length totals) 7) kept (eq-eqb _ _ seven))
       ((λ k. handed (number k) (storesFrom (o .state .soil) (o .state .snow) (memory k) (last k)) (o .results) (sums k))
-      ∙ ap handedAs (e ∙ (λ k. dayOf s (record { soil = l .soil; snow = l .snow; memory = remembers k; last = serials k }) r (days k))))
+      ∙ ap handedAs (e ∙ (λ k. dayOf s (record { soil = l .soil; snow = l .snow; past = record { memory = remembers k; last = serials k } }) r (days k))))

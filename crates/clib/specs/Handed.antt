@@ -14,10 +14,8 @@ use Rattle.clib.specs.Numbers.{returned, memoryFrom, memoryList, lastFro
 abbrev pub setupFrom : ℕ → ℕ → ℕ → ℕ → List ℕ → List ℕ → List ℕ → List ℕ → List ℕ → Setup
 setupFrom width height first last covers direction cover group water =
     record {
-      width = width;
-      height = height;
-      first = first;
-      last = last;
+      grid = record { width = width; height = height };
+      season = record { first = first; last = last };
       covers = covers;
       direction = direction;
       cover = cover;
@@ -48,10 +46,11 @@ abbrev pub storesFrom : List ℕ → List ℕ → List ℕ → List ℕ → Stor
 storesFrom soil snow memory last = record { soil = soil; snow = snow; memory = memory; last = last }
 
 unfoldable pub stateFrom : Stores → State
-stateFrom l = record { soil = l .soil; snow = l .snow; memory = memoryFrom (l .memory); last = lastFrom (l .last) }
+stateFrom l =
+    record { soil = l .soil; snow = l .snow; past = record { memory = memoryFrom (l .memory); last = lastFrom (l .last) } }
 
 unfoldable pub storesOf : State → Stores
-storesOf st = storesFrom (st .soil) (st .snow) (memoryList (st .memory)) (lastList (st .last))
+storesOf st = storesFrom (st .soil) (st .snow) (memoryList (st .past .memory)) (lastList (st .past .last))
 
 -- what a fresh state's call hands back
 pub record Begun : Type 0 where

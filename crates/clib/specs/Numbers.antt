@@ -5,20 +5,12 @@ use Prim.Native.Nat.{ℕ, _+_, _*_}
 use lib.Dec.{eqb}
 use lib.ListN.{getD}
 use Rattle.paper.specs.State.{Memory, Last, none, serial}
-use Rattle.paper.specs.Refusals.{Verdict, accepted, refused, numberOf, placeOf}
+use Rattle.paper.specs.Refusals.{Verdict, verdictNumber, verdictPlace}
 use Rattle.paper.specs.Day.{Totals}
-
-unfoldable pub numberIn : Verdict → ℕ
-numberIn accepted = 0
-numberIn (refused why) = numberOf why
-
-unfoldable pub placeIn : Verdict → ℕ
-placeIn accepted = 0
-placeIn (refused why) = placeOf why
 
 -- 0 where a call accepts, else number × 2^32 + place
 unfoldable pub returned : Verdict → ℕ
-returned v = numberIn v * 4294967296 + placeIn v
+returned v = verdictNumber v * 4294967296 + verdictPlace v
 
 -- five figures, oldest first
 unfoldable pub memoryFrom : List ℕ → Memory

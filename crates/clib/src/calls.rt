@@ -10,7 +10,9 @@ use crate::state::keep_memory;
 use crate::state::last_from;
 use crate::state::memory_from;
 use crate::state::write_totals;
-use recharge::Setup;
+use records::Grid;
+use records::Past;
+use records::Season;
 
 // Refusal 2 at 0.
 const LENT: u64 = 8589934592;
@@ -29,13 +31,9 @@ pub extern "C" fn recharge_check(
 ) -> u64
     ensures { λ r. ⌜ r ≡ returned (checkOf (setupFrom width height first last (now (covers .entry)) (now (direction .entry)) (now (cover .entry)) (now (group .entry)) (now (water .entry)))) ⌝ }
 {
-    let setup = Setup {
-        width,
-        height,
-        first,
-        last,
-    };
-    returned_as(recharge::check(setup, covers, direction, cover, group, water))
+    let grid = Grid { width, height };
+    let season = Season { first, last };
+    returned_as(recharge::check(grid, season, covers, direction, cover, group, water))
 }
 
 #[no_mangle]
@@ -62,19 +60,26 @@ pub extern "C" fn recharge_fresh(
     if last_serial.len() != 1 {
         return LENT;
     }
-    let setup = Setup {
-        width,
-        height,
-        first,
-        last,
-    };
-    let start = recharge::fresh(setup, covers, direction, cover, group, water, soil, snow);
-    let kept = start.memory;
-    let serial = start.last;
-    keep_memory(kept, memory);
-    keep_last(serial, last_serial);
-    let outcome = start.outcome;
-    returned_as(outcome)
+    let grid = Grid { width, height };
+    let season = Season { first, last };
+    let start = recharge::fresh(
+        grid,
+        season,
+        covers,
+        direction,
+        cover,
+        group,
+        water,
+        soil,
+        snow,
+    );
+    let past = start.past;
+    let verdict = start.verdict;
+    let remembered = past.memory;
+    let seen = past.last;
+    keep_memory(remembered, memory);
+    keep_last(seen, last_serial);
+    returned_as(verdict)
 }
 
 #[no_mangle]
@@ -117,12 +122,8 @@ pub extern "C" fn recharge_day(
     if totals.len() != 7 {
         return LENT;
     }
-    let setup = Setup {
-        width,
-        height,
-        first,
-        last,
-    };
+    let grid = Grid { width, height };
+    let season = Season { first, last };
     let day = day_from(
         serial,
         day_of_year,
@@ -132,8 +133,15 @@ pub extern "C" fn recharge_day(
         maximum,
         potential,
     );
+    let before = memory_from(memory);
+    let latest = last_from(last_serial);
+    let past = Past {
+        memory: before,
+        last: latest,
+    };
     let answer = recharge::day(
-        setup,
+        grid,
+        season,
         covers,
         direction,
         cover,
@@ -146,16 +154,16 @@ pub extern "C" fn recharge_day(
         evapotranspired,
         recharged,
         rejected,
-        memory_from(memory),
-        last_from(last_serial),
+        past,
         day,
     );
-    let kept = answer.memory;
-    let seen = answer.last;
+    let kept = answer.past;
     let sums = answer.totals;
-    let outcome = answer.outcome;
-    keep_memory(kept, memory);
+    let verdict = answer.verdict;
+    let remembered = kept.memory;
+    let seen = kept.last;
+    keep_memory(remembered, memory);
     keep_last(seen, last_serial);
     write_totals(sums, totals);
-    returned_as(outcome)
+    returned_as(verdict)
 }

@@ -2,18 +2,18 @@
 ghost use mathlib.Core.Path.{_≡_};
 ghost use Prim.Native.Nat.{_<_};
 ghost use lib.ListN.{length};
-ghost use Rattle.records.specs.Calls.{lastOf, dayIn};
-ghost use Rattle.records.specs.Quantities.{memoryOf};
-ghost use Rattle.recharge.specs.Settle.{totalsIn};
+ghost use Rattle.records.specs.Past.{memoryAs, lastAs};
+ghost use Rattle.records.specs.Days.{dayAs};
+ghost use Rattle.records.specs.Answers.{totalsAs};
 ghost use Rattle.clib.specs.Numbers.{memoryFrom, memoryList, lastFrom, lastList, lastNumber, totalsList};
 ghost use Rattle.clib.specs.Handed.{dayFrom};
 ghost use Rattle.clib.specs.Narrow.{narrow, Narrow};
-use recharge::DayRecord;
-use recharge::Depth;
-use recharge::Last;
-use recharge::Memory;
-use recharge::TenthF;
-use recharge::Totals;
+use records::DayRecord;
+use records::Depth;
+use records::Last;
+use records::Memory;
+use records::TenthF;
+use records::Totals;
 
 // The last serial of a state that has seen no day.
 const NO_SERIAL: u32 = 4294967295;
@@ -26,7 +26,7 @@ fn depth(figure: u32) -> Depth
 
 pub(crate) fn memory_from(memory: &[u32]) -> Memory
     requires { ⌜ length (now memory) ≡ 5 ⌝ }
-    ensures { λ r. ⌜ (memoryOf r ≡ memoryFrom (now (memory .entry))) × Narrow (memoryOf r) ⌝ }
+    ensures { λ r. ⌜ (memoryAs r ≡ memoryFrom (now (memory .entry))) × Narrow (memoryAs r) ⌝ }
 {
     Memory {
         oldest: depth(memory[0]),
@@ -39,7 +39,7 @@ pub(crate) fn memory_from(memory: &[u32]) -> Memory
 
 pub(crate) fn last_from(last: &[u32]) -> Last
     requires { ⌜ length (now last) ≡ 1 ⌝ }
-    ensures { λ r. ⌜ lastOf r ≡ lastFrom (now (last .entry)) ⌝ }
+    ensures { λ r. ⌜ lastAs r ≡ lastFrom (now (last .entry)) ⌝ }
 {
     let serial = last[0];
     if serial == NO_SERIAL {
@@ -57,7 +57,7 @@ pub(crate) fn day_from(
     maximum: i32,
     potential: u32,
 ) -> DayRecord
-    ensures { λ r. ⌜ (dayIn r ≡ dayFrom serial «day_of_year» gross minimum mean maximum potential) × (r .gross .0 < narrow) ⌝ }
+    ensures { λ r. ⌜ (dayAs r ≡ dayFrom serial «day_of_year» gross minimum mean maximum potential) × (r .gross .0 < narrow) ⌝ }
 {
     DayRecord {
         serial,
@@ -71,8 +71,8 @@ pub(crate) fn day_from(
 }
 
 pub(crate) fn keep_memory(kept: Memory, memory: &mut [u32])
-    requires { ⌜ Narrow (memoryOf kept) × (length (now memory) ≡ 5) ⌝ }
-    ensures { λ r. ⌜ now (memory .exit) ≡ memoryList (memoryOf kept) ⌝ }
+    requires { ⌜ Narrow (memoryAs kept) × (length (now memory) ≡ 5) ⌝ }
+    ensures { λ r. ⌜ now (memory .exit) ≡ memoryList (memoryAs kept) ⌝ }
 {
     let oldest = kept.oldest.0;
     let fourth = kept.fourth.0;
@@ -87,7 +87,7 @@ pub(crate) fn keep_memory(kept: Memory, memory: &mut [u32])
 }
 
 fn serial_of(last: Last) -> u32
-    ensures { λ r. ⌜ r ≡ lastNumber (lastOf last) ⌝ }
+    ensures { λ r. ⌜ r ≡ lastNumber (lastAs last) ⌝ }
 {
     match last {
         Last::Never => NO_SERIAL,
@@ -97,14 +97,14 @@ fn serial_of(last: Last) -> u32
 
 pub(crate) fn keep_last(kept: Last, last: &mut [u32])
     requires { ⌜ length (now last) ≡ 1 ⌝ }
-    ensures { λ r. ⌜ now (last .exit) ≡ lastList (lastOf kept) ⌝ }
+    ensures { λ r. ⌜ now (last .exit) ≡ lastList (lastAs kept) ⌝ }
 {
     last[0] = serial_of(kept);
 }
 
 pub(crate) fn write_totals(sums: Totals, totals: &mut [u64])
     requires { ⌜ length (now totals) ≡ 7 ⌝ }
-    ensures { λ r. ⌜ now (totals .exit) ≡ totalsList (totalsIn sums) ⌝ }
+    ensures { λ r. ⌜ now (totals .exit) ≡ totalsList (totalsAs sums) ⌝ }
 {
     let gross = sums.gross.0;
     let intercepted = sums.intercepted.0;

@@ -1,23 +1,23 @@
--- `calls::recharge_check` meets its contract: the library's outcome is the paper's verdict, whose place is at most 4,096.
+-- `calls::recharge_check` meets its contract: the library's verdict is the paper's, whose place is at most 4,096.
 use borrow.Author.Needs.{needs}
 use Rattle.clib.proofs.calls.recharge_check.Statement.{statement}
 use Rattle.clib.proofs.calls.recharge_check.Tie as tie
 use mathlib.Core.Path.{ap, _∙_}
 use Rattle.paper.specs.Day.{checkOf}
-use Rattle.records.specs.Calls.{verdictAs}
-use Rattle.records.proofs.OutcomeLaws.{verdict-back}
-use Rattle.clib.specs.Numbers.{placeIn, returned}
+use Rattle.records.specs.Verdicts.{verdictAs}
+use Rattle.records.proofs.VerdictLaws.{verdict-back}
+use Rattle.clib.specs.Numbers.{returned}
 use Rattle.clib.proofs.PlaceLaws.{setup-near}
 use mathlib.Core.Path.{subst, sym}
 use Prim.Native.Nat.{_≤_}
-use Rattle.paper.specs.Refusals.{Verdict}
+use Rattle.paper.specs.Refusals.{Verdict, verdictPlace}
 
 check-requires : tie.Need-check-requires
 check-requires c κs = search needs
 
 returned-as-requires : tie.Need-returned-as-requires
 unfolding checkOf
-returned-as-requires c κs = subst (λ (v : Verdict). placeIn v ≤ 4096) (sym (ap verdictAs (c .check .ensures) ∙ verdict-back _)) (setup-near _ _)
+returned-as-requires c κs = subst (λ (v : Verdict). verdictPlace v ≤ 4096) (sym (ap verdictAs (c .check .ensures) ∙ verdict-back _)) (setup-near _ _)
 
 returns : tie.Need-returns
 returns c = c .returned-as .ensures ∙ ap returned (ap verdictAs (c .before .check .ensures) ∙ verdict-back _)

@@ -36,16 +36,16 @@ the-day c =
 
 -- where the day was called, seen from later places; before it, the lengths' tests and the start
 abbrev from-memory : tie.After-keep-memory-arg → tie.After-day
-from-memory c = c .before .before .before .before .before .before .before .before .before .before .before .before .before .before .before .before .before
+from-memory c = c .before .before .before .before .before .before .before .before .before .before .before .before .before .before .before .before .before .before
 
 abbrev from-last : tie.After-keep-last-arg → tie.After-day
-from-last c = c .before .before .before .before .before .before .before .before .before .before .before .before .before .before .before .before .before .before .before .before .before
+from-last c = c .before .before .before .before .before .before .before .before .before .before .before .before .before .before .before .before .before .before .before .before .before .before
 
 abbrev from-totals : tie.After-write-totals-arg → tie.After-day
-from-totals c = c .before .before .before .before .before .before .before .before .before .before .before .before .before .before .before .before .before .before .before .before .before .before .before .before .before
+from-totals c = c .before .before .before .before .before .before .before .before .before .before .before .before .before .before .before .before .before .before .before .before .before .before .before .before .before .before
 
 abbrev from-end : tie.After-returned-as → tie.After-day
-from-end c = c .before .before .before .before .before .before .before .before .before .before .before .before .before .before .before .before .before .before .before .before .before .before .before .before .before .before .before .before .before
+from-end c = c .before .before .before .before .before .before .before .before .before .before .before .before .before .before .before .before .before .before .before .before .before .before .before .before .before .before .before .before .before .before
 
 abbrev tested : tie.After-day → tie.Else3
 tested c = c .before .before .before .before .before .before .before .before .before .before .before .before .before
@@ -81,7 +81,7 @@ day-requires : tie.Need-day-requires
 day-requires c κs = search needs
 
 keep-memory-requires : tie.Need-keep-memory-requires
-keep-memory-requires c κs = (day-narrow _ _ _ _ (from-memory c .day .ensures) (from-memory c .before .before .before .memory-from .ensures .1) (from-memory c .before .before .before .before .before .before .before .before .before .before .before .before .day-from .ensures .1), tested (from-memory c) .before .before .if1 .left)
+keep-memory-requires c κs = (day-narrow _ _ _ _ (from-memory c .day .ensures) (from-memory c .before .before .before .before .before .before .before .before .before .before .memory-from .ensures .1) (from-memory c .before .before .before .before .before .before .before .before .before .before .before .before .day-from .ensures .1), tested (from-memory c) .before .before .if1 .left)
 
 keep-last-requires : tie.Need-keep-last-requires
 keep-last-requires c κs = tested (from-last c) .before .if2 .left
@@ -90,7 +90,7 @@ write-totals-requires : tie.Need-write-totals-requires
 write-totals-requires c κs = tested (from-totals c) .if3 .left
 
 returned-as-requires : tie.Need-returned-as-requires
-returned-as-requires c κs = day-placed _ _ _ _ (c .before .before .before .before .before .before .before .before .before .before .before .before .before .before .before .before .before .before .before .before .before .before .before .before .before .before .before .before .day .ensures)
+returned-as-requires c κs = day-placed _ _ _ _ (c .before .before .before .before .before .before .before .before .before .before .before .before .before .before .before .before .before .before .before .before .before .before .before .before .before .before .before .before .before .day .ensures)
 
 same-length : tie.Need-same-length
 same-length c = search needs
@@ -126,7 +126,7 @@ returns-4 : tie.Need-returns-4
 returns-4 c = day-handed (the-setup (start (from-end c))) (the-stores (start (from-end c))) (the-results (start (from-end c)))
     (start (from-end c) .args .totals .now) (the-day (start (from-end c)))
     (both-kept _ (tested (from-end c) .before .before .if1 .left) (tested (from-end c) .before .if2 .left)) (tested (from-end c) .if3 .left)
-    (from-end c .day .ensures) (from-end c .before .before .before .before .before .before .before .before .before .before .before .before .day-from .ensures .0 ∙ written-back (start (from-end c))) (from-end c .before .before .before .memory-from .ensures .0) (from-end c .before .last-from .ensures)
+    (from-end c .day .ensures) (from-end c .before .before .before .before .before .before .before .before .before .before .before .before .day-from .ensures .0 ∙ written-back (start (from-end c))) (from-end c .before .before .before .before .before .before .before .before .before .before .memory-from .ensures .0) (from-end c .before .before .before .before .before .before .before .before .last-from .ensures)
     (c .returned-as .ensures) (c .before .before .before .before .before .before .before .before .before .before .before .keep-memory .ensures) (c .before .before .before .before .before .before .before .keep-last .ensures) (c .before .before .before .write-totals .ensures)
 
 pub recharge-day-spec : {M : Type 1} → statement M

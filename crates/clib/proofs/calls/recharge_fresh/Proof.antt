@@ -19,7 +19,7 @@ the-stores c = storesFrom (c .args .soil .now) (c .args .snow .now) (c .args .me
 
 -- where the fresh state was called, and the start, seen from the end
 abbrev begins : tie.After-returned-as → tie.After-fresh
-begins c = c .before .before .before .before .before .before .before .before .before .before .before .before .before .before
+begins c = c .before .before .before .before .before .before .before .before .before .before .before .before .before .before .before
 
 abbrev start : tie.After-returned-as → tie.Start
 start c = begins c .before .before .before .before .before .before .before .before .before .before .before .before .before .before
@@ -34,13 +34,13 @@ fresh-requires : tie.Need-fresh-requires
 fresh-requires c κs = search needs
 
 keep-memory-requires : tie.Need-keep-memory-requires
-keep-memory-requires c κs = (fresh-narrow _ _ _ (c .before .before .before .before .before .before .fresh .ensures), search needs)
+keep-memory-requires c κs = (fresh-narrow _ _ _ (c .before .before .before .before .before .before .before .fresh .ensures), search needs)
 
 keep-last-requires : tie.Need-keep-last-requires
 keep-last-requires c κs = search needs
 
 returned-as-requires : tie.Need-returned-as-requires
-returned-as-requires c κs = fresh-near _ _ _ (c .before .before .before .before .before .before .before .before .before .before .before .before .before .fresh .ensures)
+returned-as-requires c κs = fresh-near _ _ _ (c .before .before .before .before .before .before .before .before .before .before .before .before .before .before .fresh .ensures)
 
 same-length : tie.Need-same-length
 same-length c = search needs
