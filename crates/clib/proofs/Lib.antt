@@ -2,3 +2,4 @@ pub mod PlaceLaws
 pub mod WriteLaws
 pub mod HandedLaws
 pub mod TextLaws
+pub mod ReturnedLaws

@@ -2,15 +2,42 @@
 -- at its lowest place, with every test before it passing. Of a day's ten tests the one at k has the paper's number k + 1 and names its own
 -- place, so each row of the paper's table is given exactly when it says, at its place.
 use mathlib.Core.Path.{_≡_, refl, sym, ap, _∙_, subst}
-use mathlib.Core.Bool.{Bool, true, false, true≢false, false≢true}
+use mathlib.Core.Bool.{Bool, true, false, cond, true≢false, false≢true}
 use mathlib.Core.List.{List, [], _∷_, _++_}
 use Prim.Native.Nat.{ℕ, zero, suc, _+_, _<_, suc-le-suc}
 use native.Mathlib.Nat.{not-suc-le-zero, le-of-suc-le-suc, zero-lt-suc, add-zero, add-suc, suc-add}
 use native.Mathlib.Omega.{arith}
+use lib.Dec.{eqb}
 use lib.ListN.{length}
 use Rattle.theory.specs.Lowest.{Found, at, nowhere, orAt, lowest}
 use Rattle.theory.proofs.LowestLaws.{lowest-at, at-lowest, lowest-none, none-lowest}
-use Rattle.paper.specs.Refusals.{Refusal, grid, Verdict, accepted, refused, Test, judged, verdict, single, numberOf, placeOf, setupTests, mapTests, dayTests}
+use Rattle.paper.specs.Refusals.{
+  Refusal,
+  grid,
+  lent,
+  coverTable,
+  cellNumbers,
+  ring,
+  season,
+  dayRecord,
+  serialGap,
+  stateAt,
+  snowfall,
+  numberOf,
+  placeOf,
+  Verdict,
+  accepted,
+  refused,
+  verdictNumber,
+  verdictPlace,
+  Test,
+  judged,
+  verdict,
+  single,
+  setupTests,
+  mapTests,
+  dayTests,
+}
 use Rattle.paper.specs.Setup.{Setup}
 use Rattle.paper.specs.State.{State, Day}
 
@@ -103,6 +130,38 @@ first-at (t ∷ ts) (suc k) i h before here =
 
 pub first-refused : (ts : List Test) (why : Refusal) → FirstFailing ts why → verdict ts ≡ refused why
 first-refused ts why f = first-at ts (f .k) (f .i) (f .inside) (f .before) (f .here) ∙ ap refused (f .named)
+
+-- a verdict comes back from its number and its place, so that two with the same number and place are one
+verdictFrom : ℕ → ℕ → Verdict
+verdictFrom number place =
+    cond (eqb number 0) accepted
+    (cond (eqb number 1) (refused grid)
+    (cond (eqb number 2) (refused lent)
+    (cond (eqb number 3) (refused (coverTable place))
+    (cond (eqb number 4) (refused (cellNumbers place))
+    (cond (eqb number 5) (refused (ring place))
+    (cond (eqb number 6) (refused season)
+    (cond (eqb number 7) (refused dayRecord)
+    (cond (eqb number 8) (refused serialGap)
+    (cond (eqb number 9) (refused (stateAt place))
+    (refused (snowfall place)))))))))))
+
+from-both : (v : Verdict) → verdictFrom (verdictNumber v) (verdictPlace v) ≡ v
+unfolding verdictFrom verdictNumber verdictPlace numberOf placeOf
+from-both accepted = refl
+from-both (refused grid) = refl
+from-both (refused lent) = refl
+from-both (refused (coverTable e)) = refl
+from-both (refused (cellNumbers i)) = refl
+from-both (refused (ring i)) = refl
+from-both (refused season) = refl
+from-both (refused dayRecord) = refl
+from-both (refused serialGap) = refl
+from-both (refused (stateAt i)) = refl
+from-both (refused (snowfall i)) = refl
+
+pub verdict-only : (v u : Verdict) → verdictNumber v ≡ verdictNumber u → verdictPlace v ≡ verdictPlace u → v ≡ u
+verdict-only v u number place = sym (from-both v) ∙ (λ k. verdictFrom (number k) (place k)) ∙ from-both u
 
 -- one test after another
 module _ (ts : List Test) where
