@@ -52,10 +52,14 @@ build/figures > build/figures.out || { grep -v '^ok' build/figures.out; exit 1; 
 tail -n 1 build/figures.out
 printf '%s\n' '2 1 120 270' 1 \
     '3 0 75 75 75 75 6000 6000 6000 6000 900 0 250 250 250 250' \
-    '1 3 2 200' '0 3 2 200' '1 150 30900 600 700 800 2000' '2 151 0 600 700 800 2000' |
-    build/plain_balance > build/example.out
+    '1 3 2 200' '0 3 2 200' '1 150 30900 600 700 800 2000' '2 151 0 600 700 800 2000' > build/example.txt
+build/plain_balance < build/example.txt > build/example.out
 printf '%s\n' '1 61800 1800 4000 12000 44000 0 100000' '2 0 0 3928 0 0 0 96072' 'end 2' |
     cmp - build/example.out
+
+# crates/example runs the same two days, and once more the second serial.
+echo '2 152 0 600 700 800 2000' >> build/example.txt
+build/plain_balance < build/example.txt | cmp - ../crates/example/stdout
 
 # The random cases under the checkers of memory and of undefined behaviour, fewer of them. A third
 # implementation is left out of it.
