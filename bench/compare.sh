@@ -5,7 +5,8 @@
 #
 # Builds all of them for this machine, checks the paper's figures and the worked example, and runs the implementations side by
 # side on random and damaged cases: every returned number, store, result cell, total, memory and serial. A difference prints its
-# seed and fails. It proves the library first where it is not proved yet, which takes minutes; the rest takes seconds.
+# seed and fails. It proves the library first where it is not proved yet, which takes minutes. After `rt ci` or `rt check` only
+# `clib` is proved once more, on its way to the archive, in under a minute; the rest takes seconds.
 #
 # PROVED=no leaves the proved library out. Another implementation of balance.h, with the prefix other_, stands in for it by
 #     THIRD=other THIRD_TEXT=other THIRD_OBJECTS="path/other.o ..." ./compare.sh
@@ -16,11 +17,10 @@ mkdir -p build
 
 CC=${CC:-cc}
 WARN="-std=c11 -Wall -Wextra -Wconversion -Wshadow"
+SHIPPED=no
 if [ "${PROVED:-yes}" = yes ] && [ -z "${THIRD:-}" ]; then
     ./native.sh clib build/libclib.a
-    THIRD=recharge THIRD_OBJECTS=build/libclib.a
-    # the text, once the library has it
-    if grep -q 'fn recharge_text(' ../crates/clib/src/*.rt; then THIRD_TEXT=recharge; fi
+    THIRD=recharge THIRD_TEXT=recharge THIRD_OBJECTS=build/libclib.a SHIPPED=yes
     # the header for C says the same as balance.h
     $CC $WARN -fsyntax-only same_header.c
 fi
@@ -52,27 +52,23 @@ build/figures > build/figures.out || { grep -v '^ok' build/figures.out; exit 1; 
 tail -n 1 build/figures.out
 printf '%s\n' '2 1 120 270' 1 \
     '3 0 75 75 75 75 6000 6000 6000 6000 900 0 250 250 250 250' \
-    '1 3 2 200' '0 3 2 200' '1 150 30900 600 700 800 2000' '2 151 0 600 700 800 2000' |
-    build/plain_balance > build/example.out
+    '1 3 2 200' '0 3 2 200' '1 150 30900 600 700 800 2000' '2 151 0 600 700 800 2000' > build/example.txt
+build/plain_balance < build/example.txt > build/example.out
 printf '%s\n' '1 61800 1800 4000 12000 44000 0 100000' '2 0 0 3928 0 0 0 96072' 'end 2' |
     cmp - build/example.out
 
-# The same under the checkers of memory and of undefined behaviour, on fewer cases. A third
+# crates/example runs the same two days, and once more the second serial.
+echo '2 152 0 600 700 800 2000' >> build/example.txt
+build/plain_balance < build/example.txt | cmp - ../crates/example/stdout
+
+# The random cases under the checkers of memory and of undefined behaviour, fewer of them. A third
 # implementation is left out of it.
 $CC $WARN -O1 -g -fsanitize=address,undefined -fno-sanitize-recover=all fuzz.c cases.c table.c \
     plain.c plain_text.c fast.c fast_text.c -o build/fuzz_checked
-build/fuzz_checked 2000 2000 900000001 | tail -n 1
+build/fuzz_checked 2000 2000 900000001 > build/checked.out || { cat build/checked.out; exit 1; }
+tail -n 1 build/checked.out
 
 build/fuzz "${1:-50000}" "${2:-50000}" "${3:-1}"
 
-# On another processor the library was compiled again for it. There the archive that is shipped, for x86-64, is compared as
-# well, under an emulator and on fewer cases, where the machine has the tools.
-if [ "$(uname -m)" != x86_64 ] && [ "${THIRD:-}" = recharge ]; then
-    if command -v x86_64-linux-gnu-gcc >/dev/null && command -v qemu-x86_64 >/dev/null; then
-        x86_64-linux-gnu-gcc -std=c11 -O2 -static -DTHIRD=recharge fuzz.c cases.c table.c plain.c plain_text.c fast.c \
-            fast_text.c ../target/staticlib/libclib.a -o build/fuzz_shipped
-        qemu-x86_64 build/fuzz_shipped 1000 0 700000001
-    else
-        echo 'the shipped archive was not compared here: that takes x86_64-linux-gnu-gcc and qemu-x86_64'
-    fi
-fi
+# On another processor the library was compiled again for it: there the archive that is shipped, for x86-64, is compared as well.
+if [ "$SHIPPED" = yes ] && [ "$(uname -m)" != x86_64 ]; then ./shipped.sh 1000 1000; fi

@@ -5,16 +5,18 @@
 # On another processor the archive runs under an emulator only, and its times say nothing. So the module that the toolchain
 # compiles into the archive is kept on its way, and the toolchain's own clang compiles it once more, for this processor: OUT is
 # that object. It serves to compare and to time; what is shipped is the archive. NATIVE_AGAIN=1 takes this way on x86-64 too.
-# What was made is kept under target/native/ and handed out again while no file of crates/ and no tool has changed.
+# Of a library that is proved already, only CRATE itself is proved again on this way; the crates that it stands on are not.
+# What was made is kept under target/native/ and handed out again while no file of crates/, no tool and not the archive has changed.
 set -eu
-[ $# -eq 2 ] || { sed -n '2,9s/^# \{0,1\}//p' "$0" >&2; exit 2; }
+[ $# -eq 2 ] || { sed -n '2,10s/^# \{0,1\}//p' "$0" >&2; exit 2; }
 crate=$1 out=$2 machine=$(uname -m)
 root=$(cd "$(dirname "$0")/.." && pwd)
 case $out in /*) ;; *) out=$(pwd)/$out ;; esac
 cd "$root"
 kept=target/native/$crate-$machine${NATIVE_AGAIN:+-again}
-sum=$({ rt version; cat crates.txt; find crates -type f ! -path '*/must-fail/*' | LC_ALL=C sort | xargs cksum; } | cksum)
-if [ -f "$kept.sum" ] && [ "$(cat "$kept.sum")" = "$sum" ]; then
+archive=target/staticlib/lib$crate.a
+sources=$({ rt version; cat crates.txt; find crates -type f ! -path '*/must-fail/*' | LC_ALL=C sort | xargs cksum; } | cksum)
+if [ -f "$kept.sum" ] && [ -f "$archive" ] && [ "$(cat "$kept.sum")" = "$sources $(cksum <"$archive")" ]; then
     cp "$kept.a" "$out"
     exit 0
 fi
@@ -24,18 +26,18 @@ keep() { # the file that was made
     mkdir -p target/native
     rm -f "$kept.sum"
     cp "$1" "$kept.a"
-    echo "$sum" >"$kept.sum"
+    echo "$sources $(cksum <"$archive")" >"$kept.sum"
     cp "$1" "$out"
 }
 
 if [ "$machine" = x86_64 ] && [ -z "${NATIVE_AGAIN:-}" ]; then
     rt staticlib "$crate" >"$work/log" 2>&1 || { cat "$work/log" >&2; exit 1; }
-    keep "target/staticlib/lib$crate.a"
+    keep "$archive"
     exit 0
 fi
 
 # A view of the toolchain made of links, in which clang first puts aside the module that it is handed.
-kit=$(cd "$(dirname "$(readlink -f "$(command -v rt)")")/.." && pwd -P)
+kit=${RATTLE_HOME:-$(cd "$(dirname "$(readlink -f "$(command -v rt)")")/.." && pwd -P)}
 own=on/$machine/toolchain/bin
 mkdir -p "$work/kit/$own"
 linked() { # FOLDER EXCEPT: links to all that the kit's folder has, but for one

@@ -1,0 +1,35 @@
+#!/bin/sh
+# shipped.sh [CASES [TEXTS [SEED]]]: compares the archive that is shipped, for x86-64, on a machine with another processor.
+#
+# There compare.sh compares code that native.sh made for the machine's own processor. This takes the archive itself, as `rt staticlib` wrote it.
+# The C side is compiled for x86-64 by the toolchain's clang, linked by its linker with its C library, and run under its emulator, as
+# rt runs programs. The headers are those that cc reads here: of what is used, they say the same on every 64-bit Linux.
+# A tool that is missing fails the comparison, which is never left out: rt runs no program of this repository without them either.
+set -eu
+cd "$(dirname "$0")"
+archive=../target/staticlib/libclib.a made=build/x86-64
+mkdir -p $made
+kit=${RATTLE_HOME:-$(cd "$(dirname "$(readlink -f "$(command -v rt)")")/.." && pwd -P)}
+own=$kit/on/$(uname -m)
+tools=$own/toolchain
+target=x86_64-unknown-linux-gnu
+headers=$(LC_ALL=C ${CC:-cc} -E -v -x c /dev/null 2>&1 >/dev/null | sed -n '/^#include </,/^End/s/^ /-isystem /p')
+
+for file in plain plain_text fast fast_text table cases fuzz figures; do
+    # shellcheck disable=SC2086
+    "$tools/bin/clang" --target=$target -nostdinc $headers -std=c11 -O2 -DTHIRD=recharge -DTHIRD_TEXT=recharge -c $file.c -o $made/$file.o
+done
+for program in figures fuzz; do
+    "$own/bin/rattle-link" --target $target --toolchain "$tools" -o $made/$program $made/$program.o $made/cases.o $made/table.o \
+        $made/plain.o $made/plain_text.o $made/fast.o $made/fast_text.o $archive 2>$made/said || { cat $made/said >&2; exit 1; }
+done
+
+emulated() { # PROGRAM ARGUMENT..
+    program=$1
+    shift
+    "$tools/bin/qemu-x86_64" "$tools/lib/ld-linux-x86-64.so.2" --library-path "$tools/lib" $made/"$program" "$@"
+}
+echo 'the shipped archive, for x86-64, under the emulator:'
+emulated figures >$made/figures.out || { grep -v '^ok' $made/figures.out; exit 1; }
+tail -n 1 $made/figures.out
+emulated fuzz "${1:-1000}" "${2:-1000}" "${3:-700000001}"
