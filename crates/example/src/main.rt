@@ -1,18 +1,22 @@
 // Document 01's worked example through the library: a fresh state and two days, then a day that is refused, since its serial
 // does not follow. It prints what the program `balance` prints of the same days; examples/c has them from C.
-use recharge::Answer;
-use recharge::DayRecord;
-use recharge::Depth;
-use recharge::Outcome;
-use recharge::Setup;
-use recharge::Start;
-use recharge::TenthF;
-use recharge::Totals;
+use records::Answer;
+use records::DayRecord;
+use records::Depth;
+use records::Grid;
+use records::Past;
+use records::Season;
+use records::TenthF;
+use records::Totals;
+use records::Verdict;
 
 // Two cells in a row, of one cover: the left one drains to the right one, a closed depression.
-const SETUP: Setup = Setup {
+const GRID: Grid = Grid {
     width: 2,
     height: 1,
+};
+
+const SEASON: Season = Season {
     first: 120,
     last: 270,
 };
@@ -62,36 +66,31 @@ fn line(serial: u32, totals: Totals) {
 }
 
 // Prints a day's answer, and hands on what the next day starts from.
-fn told(serial: u32, answer: Answer) -> Start {
-    let outcome = answer.outcome;
+fn told(serial: u32, answer: Answer) -> Past {
+    let verdict = answer.verdict;
     let totals = answer.totals;
-    match outcome {
-        Outcome::Accepted => line(serial, totals),
-        Outcome::SerialGap => {
-            io::write_all(1, b"refused 8 at 0\n");
-        }
-        _ => {
-            io::write_all(1, b"refused otherwise\n");
+    match verdict {
+        Verdict::Accepted => line(serial, totals),
+        Verdict::Refused(why) => {
+            io::write_all(1, b"refused");
+            shown(why.number() as u64);
+            io::write_all(1, b" at");
+            shown(why.place() as u64);
+            io::write_all(1, b"\n");
         }
     }
-    let memory = answer.memory;
-    let last = answer.last;
-    Start {
-        outcome,
-        memory,
-        last,
-    }
+    answer.past
 }
 
 // One day of the two cells. What each cell gives besides its stores is in the totals, and is not looked at.
 fn day(
     soil: &mut [u32; 2],
     snow: &mut [u32; 2],
-    start: Start,
+    past: Past,
     serial: u32,
     date: u32,
     gross: u64,
-) -> Start {
+) -> Past {
     let record = DayRecord {
         serial,
         day_of_year: date,
@@ -101,10 +100,9 @@ fn day(
         maximum: TenthF(800),
         potential: Depth(2000),
     };
-    let memory = start.memory;
-    let last = start.last;
     let answer = recharge::day(
-        SETUP,
+        GRID,
+        SEASON,
         &COVERS,
         &DIRECTIONS,
         &CODES,
@@ -117,8 +115,7 @@ fn day(
         &mut [0, 0],
         &mut [0, 0],
         &mut [0, 0],
-        memory,
-        last,
+        past,
         record,
     );
     told(serial, answer)
@@ -128,7 +125,8 @@ fn main() {
     let mut soil = [0, 0];
     let mut snow = [0, 0];
     let start = recharge::fresh(
-        SETUP,
+        GRID,
+        SEASON,
         &COVERS,
         &DIRECTIONS,
         &CODES,
@@ -137,7 +135,8 @@ fn main() {
         &mut soil,
         &mut snow,
     );
-    let start = day(&mut soil, &mut snow, start, 1, 150, 30900);
-    let start = day(&mut soil, &mut snow, start, 2, 151, 0);
-    day(&mut soil, &mut snow, start, 2, 152, 0);
+    let past = start.past;
+    let past = day(&mut soil, &mut snow, past, 1, 150, 30900);
+    let past = day(&mut soil, &mut snow, past, 2, 151, 0);
+    day(&mut soil, &mut snow, past, 2, 152, 0);
 }

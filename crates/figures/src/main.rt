@@ -2,13 +2,30 @@
 // these lines beside theirs in docs/VECTORS.md. Every figure is read off days of one cell that drains over the edge, since the rules are private.
 ghost use Prim.Native.Nat.{_*_, _≤_};
 ghost use mathlib.Core.Path.{_≡_};
-use recharge::DayRecord;
-use recharge::Depth;
-use recharge::Last;
-use recharge::Memory;
-use recharge::Outcome;
-use recharge::Setup;
-use recharge::TenthF;
+use records::DayRecord;
+use records::Depth;
+use records::Grid;
+use records::Last;
+use records::Memory;
+use records::Past;
+use records::Season;
+use records::TenthF;
+use records::Verdict;
+
+const GROWING: Season = Season {
+    first: 100,
+    last: 200,
+};
+
+const ONE_CELL: Grid = Grid {
+    width: 1,
+    height: 1,
+};
+
+const TWO_CELLS: Grid = Grid {
+    width: 2,
+    height: 1,
+};
 
 // What a day leaves of the cell.
 struct Cell {
@@ -38,13 +55,17 @@ fn ended() {
     io::write_all(1, b"\n");
 }
 
-fn remembered(yesterday: u64) -> Memory {
-    Memory {
+fn remembered(yesterday: u64) -> Past {
+    let memory = Memory {
         oldest: Depth(0),
         fourth: Depth(0),
         third: Depth(0),
         second: Depth(0),
         yesterday: Depth(yesterday),
+    };
+    Past {
+        memory,
+        last: Last::Never,
     }
 }
 
@@ -61,7 +82,7 @@ fn weather(gross: u64, minimum: i32, mean: i32, maximum: i32, potential: u64) ->
 }
 
 // One growing day of the cell. No interception, and no excess may recharge. A refused day would show as numbers that no day gives.
-fn lived(ground: Ground, soil: u32, snow: u32, memory: Memory, day: DayRecord) -> Cell {
+fn lived(ground: Ground, soil: u32, snow: u32, past: Past, day: DayRecord) -> Cell {
     let n = ground.curve;
     let root = ground.root;
     let depth = ground.water;
@@ -77,14 +98,9 @@ fn lived(ground: Ground, soil: u32, snow: u32, memory: Memory, day: DayRecord) -
     let mut evapotranspired = [0];
     let mut recharged = [0];
     let mut rejected = [0];
-    let setup = Setup {
-        width: 1,
-        height: 1,
-        first: 100,
-        last: 200,
-    };
     let answer = recharge::day(
-        setup,
+        ONE_CELL,
+        GROWING,
         &covers,
         &direction,
         &cover,
@@ -97,12 +113,11 @@ fn lived(ground: Ground, soil: u32, snow: u32, memory: Memory, day: DayRecord) -
         &mut evapotranspired,
         &mut recharged,
         &mut rejected,
-        memory,
-        Last::Never,
+        past,
         day,
     );
-    let outcome = answer.outcome;
-    let Outcome::Accepted = outcome else {
+    let verdict = answer.verdict;
+    let Verdict::Accepted = verdict else {
         return Cell {
             outflow: 4294967295,
             soil: 4294967295,
@@ -249,14 +264,9 @@ fn capacity(water: u32, root: u32) {
     ];
     let mut soil = [0];
     let mut snow = [0];
-    let setup = Setup {
-        width: 1,
-        height: 1,
-        first: 100,
-        last: 200,
-    };
     let start = recharge::fresh(
-        setup,
+        ONE_CELL,
+        GROWING,
         &covers,
         &[1],
         &[3],
@@ -327,20 +337,12 @@ fn winter_days() {
     winter(9, 30, 160, 185, 210, snow);
 }
 
-// The paper's number and place of the two refusals that no text of the program reaches; 0 and 0 for anything else.
-fn verdict(outcome: Outcome) {
+// The paper's number and place.
+fn told(verdict: Verdict) {
     io::write_all(1, b"refused");
-    match outcome {
-        Outcome::LentSize => shown_two(2, 0),
-        Outcome::StateOutside(i) => shown_two(9, i as u64),
-        _ => shown_two(0, 0),
-    }
+    shown(wide(verdict.number()));
+    shown(verdict.place() as u64);
     ended();
-}
-
-fn shown_two(number: u64, place: u64) {
-    shown(number);
-    shown(place);
 }
 
 // A dry day of two cells, of which three of the eleven lent slices have these lengths.
@@ -352,7 +354,8 @@ fn lent(directions: usize, soils: usize, results: usize)
     let mut soil = [0, 0, 0];
     let mut rejected = [0, 0, 0];
     let answer = recharge::day(
-        two_cells(),
+        TWO_CELLS,
+        GROWING,
         &covers,
         &direction[..directions],
         &[3, 3],
@@ -366,20 +369,10 @@ fn lent(directions: usize, soils: usize, results: usize)
         &mut [0, 0],
         &mut rejected[..results],
         remembered(0),
-        Last::Never,
         weather(0, 600, 700, 800, 0),
     );
-    let outcome = answer.outcome;
-    verdict(outcome);
-}
-
-fn two_cells() -> Setup {
-    Setup {
-        width: 2,
-        height: 1,
-        first: 100,
-        last: 200,
-    }
+    let verdict = answer.verdict;
+    told(verdict);
 }
 
 // A dry day of two cells from this state; each holds 50,000 at most.
@@ -388,7 +381,8 @@ fn stood(first_soil: u32, second_soil: u32, second_snow: u32, yesterday: u64) {
     let mut soil = [first_soil, second_soil];
     let mut snow = [0, second_snow];
     let answer = recharge::day(
-        two_cells(),
+        TWO_CELLS,
+        GROWING,
         &covers,
         &[1, 0],
         &[3, 3],
@@ -402,11 +396,10 @@ fn stood(first_soil: u32, second_soil: u32, second_snow: u32, yesterday: u64) {
         &mut [0, 0],
         &mut [0, 0],
         remembered(yesterday),
-        Last::Never,
         weather(0, 600, 700, 800, 0),
     );
-    let outcome = answer.outcome;
-    verdict(outcome);
+    let verdict = answer.verdict;
+    told(verdict);
 }
 
 // Refusals 2 and 9: the text lends whole slices and starts fresh, so they are reached here.

@@ -5,9 +5,6 @@ use borrow.Author.Needs.{needs}
 use Rattle.figures.proofs.lent.Statement.{statement}
 use Rattle.figures.proofs.lent.Tie as tie
 
-two-cells-requires : tie.Need-two-cells-requires
-two-cells-requires c κs = search needs
-
 slice-aggregate-day : tie.Need-slice-aggregate-day
 slice-aggregate-day c = search needs
 
@@ -62,8 +59,8 @@ weather-requires c κs = search needs
 day-requires : tie.Need-day-requires
 day-requires c κs = search needs
 
-verdict-requires : tie.Need-verdict-requires
-verdict-requires c κs = search needs
+told-requires : tie.Need-told-requires
+told-requires c κs = search needs
 
 returns : tie.Need-returns
 returns c = search needs
@@ -72,7 +69,6 @@ pub lent-spec : {M : Type 1} → statement M
 lent-spec =
     tie.close
     (tie.spec
-    two-cells-requires
     slice-aggregate-day
     array-share-prefix-direction
     slice-aggregate-day-2
@@ -91,5 +87,5 @@ lent-spec =
     remembered-requires
     weather-requires
     day-requires
-    verdict-requires
+    told-requires
     returns)
