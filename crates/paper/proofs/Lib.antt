@@ -13,3 +13,4 @@ pub mod SetupLaws
 pub mod DayLaws
 pub mod RunLaws
 pub mod StarredFigures
+pub mod EdgeFigures
