@@ -11,7 +11,7 @@ use lib.ListN.{set, replicate}
 use borrow.Author.Tests.{ltb-true, leb-true, eqb-true, eq-eqb, ne-eqb, not-false}
 use Rattle.theory.specs.Lists.{made}
 use Rattle.theory.specs.Lowest.{Found, at, nowhere, orAt, lowest}
-use Rattle.theory.proofs.Cases.{below-or-not, and-left, and-right, cond-true, cond-false}
+use Rattle.theory.proofs.Cases.{byCases, below-or-not, and-left, and-right, cond-true, cond-false}
 use Rattle.theory.proofs.ListLaws.{made-set}
 use Rattle.theory.proofs.LowestLaws.{lowest-none, none-lowest, at-lowest}
 use Rattle.paper.specs.Covers.{codeOf, entries, sizeFits, entryFits, rises}
@@ -54,6 +54,20 @@ module _ (covers : List ℕ) where
     pub table-fits : verdict (coverTest covers ∷ []) ≡ accepted
     unfolding verdict
     table-fits = pass-many [] (coverTest covers) (search-entries size ∙ none)
+
+  -- a table that test 3 accepts
+  pub accepted-table : verdict (coverTest covers ∷ []) ≡ accepted → EntriesFit covers
+  accepted-table v =
+      byCases (sizeFits covers)
+      (λ size. go size (lowest (entries covers) (λ k. not (entryFits covers k))) refl)
+      (λ size. absurd (clash (coverTable 0) (sym v ∙ size-bad size)))
+    where
+      clash : (why : Refusal) → accepted ≡ refused why → ⊥
+      clash why e = let z : _≡_ {A = ℕ} 0 1 = cc in omega arith
+
+      go : sizeFits covers ≡ true → (f : Found) → lowest (entries covers) (λ k. not (entryFits covers k)) ≡ f → EntriesFit covers
+      go size (at e) bad = absurd (clash (coverTable e) (sym v ∙ entry-bad size e bad))
+      go size nowhere none = entries-fit size none
 
   -- refused, the array is as it was lent; accepted, it has the index
   pub refused-table : (before : List ℕ) (why : Refusal) → verdict (coverTest covers ∷ []) ≡ refused why

@@ -10,7 +10,7 @@ use crate::table::ENTRY_NUMBERS;
 use crate::table::GROWING_FIGURE;
 use crate::table::LARGEST_RECHARGES;
 use crate::table::MOST_ENTRIES;
-use crate::table::OPEN_WATER;
+use crate::table::OPEN_FLAG;
 use crate::table::ROOT_DEPTHS;
 use records::CurveNumber;
 use records::Depth;
@@ -25,11 +25,11 @@ const MOST_NUMBERS: usize = ENTRY_NUMBERS * MOST_ENTRIES;
 // Open water has no soil: no roots, and no recharge.
 const NO_SOIL: u32 = 0;
 
-// A slot has 8 bits: 64 entries have 256 slots.
-pub fn slot_place(slot: u8) -> usize
-    ensures { λ r. ⌜ (r ≡ slot) × (r < 256) ⌝ }
+// A slot has 8 bits, since 64 entries have 256 slots; so has an entry of the index.
+pub fn small_place(x: u8) -> usize
+    ensures { λ r. ⌜ (r ≡ x) × (r < 256) ⌝ }
 {
-    slot as usize
+    x as usize
 }
 
 // Number k of the slot's entry.
@@ -51,7 +51,7 @@ fn number_at(covers: &[u32], slot: usize, k: usize) -> u32
 pub fn is_open(covers: &[u32], slot: usize) -> bool
     ensures { λ r. ⌜ r ≡ openAt (now (covers .entry)) slot ⌝ }
 {
-    number_at(covers, slot, OPEN_WATER) == 1
+    number_at(covers, slot, OPEN_FLAG) == 1
 }
 
 pub fn table_number(covers: &[u32], slot: usize) -> CurveNumber

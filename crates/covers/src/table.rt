@@ -29,7 +29,7 @@ pub const CODES: usize = 256;
 pub const MOST_ROOT_DEPTH: u64 = 1000;
 
 // Where an entry's numbers stand.
-pub(crate) const OPEN_WATER: usize = 1;
+pub const OPEN_FLAG: usize = 1;
 
 pub(crate) const GROWING_FIGURE: usize = 10;
 
@@ -93,7 +93,7 @@ fn entry_fits(covers: &[u32], e: usize) -> bool
     let code = code_of(covers, e);
     rises(covers, e)
         & ((1 <= code) & (code <= MOST_CODE))
-        & (number_of(covers, e, OPEN_WATER) <= 1)
+        & (number_of(covers, e, OPEN_FLAG) <= 1)
         & group_fits(covers, e, 1)
         & group_fits(covers, e, 2)
         & group_fits(covers, e, 3)

@@ -81,6 +81,12 @@ module _ {A : Type 0} where
       (λ i inside. let low : i < n = rw whole at inside in
       (below-or-not i k (over-at k f l d i) (λ past. over-ahead k f l d i past ∙ rest i past low)) ∙ sym (made-at n f d i low))
 
+-- inside a list the default is of no account
+pub in-range : (l : List ℕ) (i d e : ℕ) → i < length l → getD l i d ≡ getD l i e
+in-range [] i d e h = absurd (not-suc-le-zero h)
+in-range (x ∷ l) zero d e h = refl
+in-range (x ∷ l) (suc i) d e h = in-range l i d e (le-of-suc-le-suc h)
+
 -- one store into a made list
 pub made-set : (n k : ℕ) (f g : ℕ → ℕ) (x : ℕ) → g k ≡ x → ((i : ℕ) → (i ≡ k → ⊥) → f i ≡ g i) → set (made n f) k x ≡ made n g
 made-set n k f g x here other =

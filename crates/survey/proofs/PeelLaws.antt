@@ -1,250 +1,33 @@
--- The peeling's array. What one store does to the counts and the queue that the array holds: to add 8192 or take it away changes one count, and
--- to add a cell where none stands changes one place of the queue. With that, each step of the code is a step of the laws on orders.
+-- Each step of the peeling's code is a step of the laws on orders: a source is taken in hand, then the cell to which it leads, for as long as that
+-- one waits for no other. With all sources taken the cells that wait are those on rings, and where none waits the queue is the order.
 use mathlib.Core.Path.{_≡_, refl, sym, ap, _∙_, subst}
 use mathlib.Core.Bool.{Bool, true, false}
-use mathlib.Core.List.{List, [], _∷_}
+use mathlib.Core.List.{List}
 use mathlib.Core.Logic.{⊎-elim}
-use Prim.Native.Nat.{ℕ, zero, suc, _+_, _-_, _/_, _%_, _≤_, _<_, zero-le}
-use native.Mathlib.Nat.{not-suc-le-zero, le-of-suc-le-suc, le-refl, le-trans, le-step, eq-or-lt-of-le, lt-suc-self, eq-zero-or-pos}
+use Prim.Native.Nat.{ℕ, suc, _+_, _-_, _≤_, _<_, zero-le}
+use native.Mathlib.Nat.{le-of-suc-le-suc, le-refl, le-trans, le-step, eq-or-lt-of-le, eq-zero-or-pos}
 use native.Mathlib.Numerals.{add-one}
 use native.Mathlib.Omega.{arith}
 use lib.Dec.{eqb, leb, ltb}
 use lib.ListN.{length, getD, set, length-set}
-use lib.Seq.{getD-set-same, getD-set-other}
+use lib.Seq.{getD-set-same}
 use borrow.Author.Tests.{eqb-true, eqb-false, lt-ltb, le-ltb, le-leb, lt-leb, ltb-false}
-use Rattle.theory.specs.Lists.{madeOver}
-use Rattle.theory.specs.Sums.{sum, given}
-use Rattle.theory.specs.Lowest.{Found, at, nowhere, lowest}
+use Rattle.theory.specs.Sums.{given}
+use Rattle.theory.specs.Lowest.{at, lowest}
 use Rattle.theory.specs.Ways.{onRing, OneWay}
 use Rattle.theory.proofs.Cases.{byCases, below-or-not, and-second}
-use Rattle.theory.proofs.ListLaws.{over-length}
-use Rattle.theory.proofs.SumLaws.{sum-cong, sum-most, given-most}
+use Rattle.theory.proofs.SumLaws.{sum-most, given-most}
 use Rattle.theory.proofs.LowestLaws.{lowest-cong, lowest-none, none-lowest}
-use Rattle.records.specs.declared.answers.Place.{Place}
-use Rattle.records.specs.declared.answers.Place.the-variants.{Nowhere}
+use Rattle.records.specs.declared.places.Place.{Place}
+use Rattle.records.specs.declared.places.Place.the-variants.{Nowhere}
 use Rattle.records.specs.Places.{placeIn}
-use Rattle.survey.specs.Routes.{nextIn, WaysIn, OrderedBy, OrderOrRing}
-use Rattle.survey.specs.Peeling.{leading, waits, queued, waitFor, Counted, Blank, Gathered, Queue, GatheredIn, QueueIn, ahead, PeeledIn}
-use Rattle.survey.proofs.WayArrays.{over-at}
-use Rattle.survey.proofs.OrderLaws.{leads, elsewhere, one-more, no-places, without, without-it, without-other, start, room, waiting, shut, left-behind, still-waiting, new, joins, leftover-rings, peeled, peeled-who}
-
--- inside a list the default is of no account
-in-range : (l : List ℕ) (i d e : ℕ) → i < length l → getD l i d ≡ getD l i e
-in-range [] i d e h = absurd (not-suc-le-zero h)
-in-range (x ∷ l) zero d e h = refl
-in-range (x ∷ l) (suc i) d e h = in-range l i d e (le-of-suc-le-suc h)
-
-module _ {n : ℕ} {ways : List ℕ} (w : WaysIn n ways) where
-  pub way-next : (i : ℕ) → i < n → getD ways i 0 ≡ nextIn n ways i
-  unfolding nextIn
-  way-next i h = rw (lt-ltb i n h) (in-range ways i 0 4097 (omega (arith, w .most, w .sized)))
-
-  pub one-way : OneWay n (nextIn n ways)
-  unfolding nextIn
-  one-way = record { outside = λ i h. rw (le-ltb i n h) (omega (arith, w .most)) }
-
-module _ {n : ℕ} {next : ℕ → ℕ} where
-  pub count-none : (l : List ℕ) → length l ≡ 4096 → n ≤ 4096 → Counted n next 0 (madeOver n (λ i. 0) l)
-  count-none l sized most =
-      record {
-        sized = over-length {A = ℕ} n _ l (omega (arith, sized)) ∙ sized;
-        counts = λ i h. omega (arith, over-at n (λ k. 0) l 0 i h, no-places (leading next i));
-      }
-
-  module _ {k : ℕ} {l : List ℕ} (c : Counted n next k l) where
-    pub count-fits : k ≤ 4096 → (i : ℕ) → i < n → getD l i 0 ≤ 33554432
-    count-fits h i a = omega (arith, c .counts i a, sum-most k (leading next i) 1 (λ j _. unfold leading in given-most (eqb (next j) i) 1))
-
-    count-outside : n ≤ next k → Counted n next (k + 1) l
-    count-outside h =
-        record {
-          sized = c .sized;
-          counts = λ i a. rw add-one (omega (arith, c .counts i a, one-more k (leading next i), elsewhere next i k (λ e. omega arith)));
-        }
-
-    count-inside : (j : ℕ) → next k ≡ j → j < n → n ≤ 4096 → Counted n next (k + 1) (set l j (getD l j 0 + 8192))
-    count-inside j e h m =
-        record {
-          sized = length-set l j (getD l j 0 + 8192) ∙ c .sized;
-          counts = λ i a.
-              rw add-one
-              (byCases (eqb j i)
-              (λ p. let same : j ≡ i = eqb-true j i p in
-              omega (
-                arith,
-                subst (λ (x : ℕ). getD (set l j (getD l j 0 + 8192)) x 0 ≡ getD l j 0 + 8192) same
-                    (getD-set-same l j (getD l j 0 + 8192) 0 (omega (arith, c .sized))),
-                ap (λ (x : ℕ). getD l x 0) same,
-                c .counts i a,
-                one-more k (leading next i),
-                leads next i k (e ∙ same),
-              ))
-              (λ p. omega (
-                arith,
-                getD-set-other l j i (getD l j 0 + 8192) 0 (λ s. eqb-false j i p (sym s)),
-                c .counts i a,
-                one-more k (leading next i),
-                elsewhere next i k (λ s. eqb-false j i p (sym e ∙ s)),
-              )));
-        }
-
-    -- cell k's way is counted, inside or out
-    pub count-one : (way : ℕ) → next k ≡ way → n ≤ 4096 → Counted n next (k + 1) (waitFor n way l)
-    unfolding waitFor
-    count-one way e m =
-        below-or-not way n (λ h. rw (lt-ltb way n h) (count-inside way e h m)) (λ h. rw (le-ltb way n h) (count-outside (omega (arith, e))))
-
-    -- the counts are the same by a rule that agrees below k
-    pub count-by : (rule : ℕ → ℕ) → ((j : ℕ) → j < k → rule j ≡ next j) → Counted n rule k l
-    unfolding leading
-    count-by rule same =
-        record {
-          sized = c .sized;
-          counts = λ i a.
-              omega (arith, c .counts i a, sum-cong k (leading rule i) (leading next i) (λ j h. ap (λ (x : ℕ). given (eqb x i) 1) (same j h)));
-        }
-
-  pub counted-blank : {l : List ℕ} → Counted n next n l → n ≤ 4096 → Blank n l
-  unfolding waits queued
-  counted-blank c m =
-      record { most = m; sized = c .sized; few = λ t h. omega (arith, count-fits c m t h); blank = λ t h. omega (arith, c .counts t h) }
-
-  counted-waits : {l : List ℕ} → Counted n next n l → (i : ℕ) → i < n → waits l i ≡ sum n (leading next i)
-  unfolding waits
-  counted-waits c i h = omega (arith, c .counts i h)
-
--- a cell put where none stands
-module _ (l : List ℕ) (t v : ℕ) (small : v < 8192) (bare : queued l t ≡ 0) (h : t < length l) where
-  abbrev put : List ℕ
-  put = set l t (getD l t 0 + v)
-
-  put-waits : (i : ℕ) → waits put i ≡ waits l i
-  unfolding waits queued
-  put-waits i =
-      byCases (eqb t i)
-      (λ p. subst (λ (x : ℕ). getD put x 0 / 8192 ≡ getD l x 0 / 8192) (eqb-true t i p) (rw (getD-set-same l t (getD l t 0 + v) 0 h) (omega arith)))
-      (λ p. ap (λ (x : ℕ). x / 8192) (getD-set-other l t i (getD l t 0 + v) 0 (λ s. eqb-false t i p (sym s))))
-
-  put-queued : queued put t ≡ v
-  unfolding queued
-  put-queued = rw (getD-set-same l t (getD l t 0 + v) 0 h) (omega arith)
-
-  put-others : (s : ℕ) → (s ≡ t → ⊥) → queued put s ≡ queued l s
-  unfolding queued
-  put-others s e = ap (λ (x : ℕ). x % 8192) (getD-set-other l t s (getD l t 0 + v) 0 e)
-
--- one cell less to wait for
-module _ (l : List ℕ) (j : ℕ) (some : 8192 ≤ getD l j 0) (h : j < length l) where
-  abbrev less : List ℕ
-  less = set l j (getD l j 0 - 8192)
-
-  less-waits : waits less j + 1 ≡ waits l j
-  unfolding waits
-  less-waits = rw (getD-set-same l j (getD l j 0 - 8192) 0 h) (omega arith)
-
-  less-others : (i : ℕ) → (j ≡ i → ⊥) → waits less i ≡ waits l i
-  unfolding waits
-  less-others i e = ap (λ (x : ℕ). x / 8192) (getD-set-other l j i (getD l j 0 - 8192) 0 (λ s. e (sym s)))
-
-  less-queued : (t : ℕ) → queued less t ≡ queued l t
-  unfolding queued
-  less-queued t =
-      byCases (eqb j t)
-      (λ p. subst (λ (x : ℕ). getD less x 0 % 8192 ≡ getD l x 0 % 8192) (eqb-true j t p) (rw (getD-set-same l j (getD l j 0 - 8192) 0 h) (omega arith)))
-      (λ p. ap (λ (x : ℕ). x % 8192) (getD-set-other l j t (getD l j 0 - 8192) 0 (λ s. eqb-false j t p (sym s))))
-
-pub gather-none : {n : ℕ} {l : List ℕ} → Blank n l → GatheredIn n (waits l) 0 0 l
-gather-none b =
-    record {
-      sized = b .sized;
-      queue = record {
-        short = zero-le;
-        placed = λ t h. absurd (not-suc-le-zero h);
-        rising = λ s t a h. absurd (not-suc-le-zero h);
-        free = λ t h. absurd (not-suc-le-zero h);
-        all = λ i h. absurd (not-suc-le-zero h);
-        left = λ i h. refl;
-      };
-      blank = λ t a h. b .blank t h;
-    }
-
-module _ {n : ℕ} {counts : ℕ → ℕ} {k tail : ℕ} {l : List ℕ} (g : GatheredIn n counts k tail l) where
-  pub gather-fits : k < n → n ≤ 4096 → ((t : ℕ) → t < n → counts t ≤ 4096) → getD l tail 0 + k < 4294967296
-  unfolding waits queued
-  gather-fits h m f =
-      let inside : tail < n = omega (arith, g .queue .short) in
-      omega (arith, g .blank tail (le-refl tail) inside, g .queue .left tail inside, f tail inside)
-
-  pub gather-skip : 8192 ≤ getD l k 0 → GatheredIn n counts (k + 1) tail l
-  unfolding waits
-  gather-skip h =
-      let q = g .queue in
-      record {
-        sized = g .sized;
-        queue = record {
-          short = omega (arith, q .short);
-          placed = λ t a. omega (arith, q .placed t a);
-          rising = q .rising;
-          free = q .free;
-          all = λ i a e.
-              ⊎-elim (λ s. absurd (omega (arith, ap (λ (x : ℕ). getD l x 0) s))) (λ b. q .all i b e)
-              (eq-or-lt-of-le (le-of-suc-le-suc (rw add-one at a)));
-          left = q .left;
-        };
-        blank = g .blank;
-      }
-
-  module _ (h : k < n) (m : n ≤ 4096) (e : getD l k 0 < 8192) where
-    abbrev q : Gathered n counts (waits l) (queued l) k tail
-    q = g .queue
-
-    abbrev l′ : List ℕ
-    l′ = set l tail (getD l tail 0 + k)
-
-    small : k < 8192
-    small = omega arith
-
-    bare : queued l tail ≡ 0
-    bare = g .blank tail (le-refl tail) (omega (arith, q .short))
-
-    room′ : tail < length l
-    room′ = omega (arith, q .short, g .sized)
-
-    here : queued l′ tail ≡ k
-    here = put-queued l tail k small bare room′
-
-    same : (t : ℕ) → t < tail → queued l′ t ≡ queued l t
-    same t a = put-others l tail k small bare room′ t (λ s. omega arith)
-
-    none : waits l k ≡ 0
-    none = unfold waits in omega arith
-
-    cases : {P : ℕ → Type 0} → ((t : ℕ) → t < tail → P t) → P tail → (t : ℕ) → t < tail + 1 → P t
-    cases {P} old this t a = ⊎-elim (λ e. subst P (sym e) this) (old t) (eq-or-lt-of-le (le-of-suc-le-suc (rw add-one at a)))
-
-    pub gather-put : GatheredIn n counts (k + 1) (tail + 1) l′
-    gather-put =
-        record {
-          sized = length-set l tail (getD l tail 0 + k) ∙ g .sized;
-          queue = record {
-            short = omega (arith, q .short);
-            placed = λ t a. cases {P = λ t. queued l′ t < k + 1} (λ t b. rw (same t b) (omega (arith, q .placed t b))) (rw here (omega arith)) t a;
-            rising = λ s t a b.
-                cases {P = λ t. s < t → queued l′ s < queued l′ t}
-                (λ t b a. rw (same t b, same s (omega arith)) (q .rising s t a b))
-                (λ a. rw (here, same s a) (q .placed s a)) t b a;
-            free = λ t a.
-                cases {P = λ t. waits l′ (queued l′ t) ≡ 0}
-                (λ t b. put-waits l tail k small bare room′ (queued l′ t) ∙ rw (same t b) (q .free t b))
-                (put-waits l tail k small bare room′ (queued l′ tail) ∙ rw here none) t a;
-            all = λ i a z.
-                ⊎-elim (λ s. (tail, rw add-one (lt-suc-self tail), here ∙ sym s))
-                (λ b. let (t, c, f) = q .all i b (sym (put-waits l tail k small bare room′ i) ∙ z) in (t, omega arith, same t c ∙ f))
-                (eq-or-lt-of-le (le-of-suc-le-suc (rw add-one at a)));
-            left = λ i a. put-waits l tail k small bare room′ i ∙ q .left i a;
-          };
-          blank = λ t a b. put-others l tail k small bare room′ t (λ s. omega arith) ∙ g .blank t (omega arith) b;
-        }
+use Rattle.survey.specs.Routes.{OrderedBy, OrderOrRing}
+use Rattle.survey.specs.Peeling.{leading, waits, queued, Counted, Queue, GatheredIn, QueueIn, ahead, PeeledIn}
+use Rattle.survey.proofs.OrderLaws.{without, without-it, without-other, start, room, waiting, shut, left-behind, still-waiting, new, joins}
+use Rattle.survey.proofs.RingLaws.{leftover-rings, peeled, peeled-who}
+use Rattle.records.proofs.PlaceLaws.{found-no}
+use Rattle.survey.proofs.CountLaws.{counted-waits}
+use Rattle.survey.proofs.GatherLaws.{put-waits, put-queued, put-others, less-waits, less-others, less-queued}
 
 -- which places are ahead
 ahead-on : (head sources t : ℕ) → head ≤ t → t < sources → ahead head sources t ≡ true
@@ -459,11 +242,6 @@ module _ {n : ℕ} {next : ℕ → ℕ} {head sources tail j : ℕ} {l : List �
                 (eq-or-lt-of-le (le-of-suc-le-suc (rw add-one at a)));
           }
 
-unmarked : (x : Found) → placeIn x ≡ Nowhere → x ≡ nowhere
-unfolding placeIn
-unmarked (at i) p = let z : _≡_ {A = ℕ} 0 1 = cc in absurd (omega arith)
-unmarked nowhere p = refl
-
 -- with all sources taken: the cells that wait are those on rings, and where none waits the queue is the order
 module _ {n : ℕ} {next : ℕ → ℕ} {sources tail : ℕ} {l : List ℕ} (p : PeeledIn n next sources sources tail l) (out : OneWay n next) where
   gone : (t : ℕ) → t < tail → p .rest (queued l t) ≡ false
@@ -496,5 +274,5 @@ module _ {n : ℕ} {next : ℕ → ℕ} {sources tail : ℕ} {l : List ℕ} (p :
       none p i a =
           omega (
             arith,
-            ltb-false 0 (waits l i) (lowest-none n (λ i. ltb 0 (waits l i)) (unmarked (lowest n (λ i. ltb 0 (waits l i))) p) i a),
+            ltb-false 0 (waits l i) (lowest-none n (λ i. ltb 0 (waits l i)) (found-no (lowest n (λ i. ltb 0 (waits l i))) (sym p)) i a),
           )

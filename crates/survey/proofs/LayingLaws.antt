@@ -17,15 +17,16 @@ use Rattle.theory.proofs.ListLaws.{over-none, over-more}
 use Rattle.theory.specs.Lowest.{lowest}
 use Rattle.paper.specs.Limits.{mostCells}
 use Rattle.paper.specs.Covers.{openOf}
+use Rattle.covers.specs.Slots.{openAt}
 use Rattle.paper.specs.Directions.{Goes, wayOf, goesBy}
 use Rattle.paper.specs.Setup.{pointed}
 use Rattle.records.specs.Places.{placeIn}
-use Rattle.records.specs.declared.answers.Place.the-variants.{At, Nowhere}
+use Rattle.records.specs.declared.places.Place.the-variants.{At, Nowhere}
 use Rattle.survey.specs.Peeling.{Counted, waitFor}
-use Rattle.survey.specs.Slots.{wayFrom, wayAt, LaidOrBad}
+use Rattle.survey.specs.Cells.{wayFrom, wayAt, LaidOrBad}
 use Rattle.survey.proofs.DirectionLaws.{goes-at}
-use Rattle.survey.proofs.PlaceLaws.{PassedTo}
-use Rattle.survey.proofs.QueueLaws.{count-one}
+use Rattle.records.proofs.PlaceLaws.{PassedTo}
+use Rattle.survey.proofs.CountLaws.{count-one}
 
 -- at a cell without a slot nothing is said of the arrays
 pub laid-bad : (n : ℕ) (slot way : ℕ → ℕ) (i : ℕ) (slots₀ slots ways₀ ways order : List ℕ) → At i ≡ placeIn (lowest n (λ j. eqb (slot j) 256))
@@ -69,7 +70,7 @@ module _ (width height : ℕ) (covers direction : List ℕ) (slot : ℕ → ℕ)
     way-is : wayFrom width height row column (openOf covers (slot i / 4)) (getD direction i 0) ≡ wayAt width height covers slot direction i
     unfolding wayFrom wayAt
     way-is =
-        ap (λ (g : Goes). cond (eqb (openOf covers (slot i / 4)) 1) (suc mostCells) (pointed g))
+        ap (λ (g : Goes). cond (openAt covers (slot i)) (suc (suc mostCells)) (pointed g))
         (goes-at width height row column (wayOf (getD direction i 0)) (s .inside)
         ∙ ap (λ (k : ℕ). goesBy width height k (wayOf (getD direction i 0))) (sym (s .at)))
 

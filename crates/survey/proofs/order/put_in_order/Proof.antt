@@ -1,9 +1,10 @@
--- `order::order` meets its contract, by what its three parts ensure: the counts give the sources' array, with these it holds a queue, and at
+-- `order::put_in_order` meets its contract, by what its three parts ensure: the counts give the sources' array, with these it holds a queue, and at
 -- the queue's end the laws say that the cells left over are those on rings, and that with none left over the array is the order.
 use borrow.Author.Needs.{needs}
-use Rattle.survey.proofs.order.order.Statement.{statement}
-use Rattle.survey.proofs.QueueLaws.{counted-blank, queue-start, one-way, some-left, all-taken}
-use Rattle.survey.proofs.order.order.Tie as tie
+use Rattle.survey.proofs.order.put_in_order.Statement.{statement}
+use Rattle.survey.proofs.CountLaws.{counted-blank, one-way}
+use Rattle.survey.proofs.PeelLaws.{queue-start, some-left, all-taken}
+use Rattle.survey.proofs.order.put_in_order.Tie as tie
 
 sources-requires : tie.Need-sources-requires
 sources-requires c κs = counted-blank (c .before .pre .1) (c .before .pre .0 .most)
@@ -22,7 +23,7 @@ returns-2 : tie.Need-returns-2
 returns-2 c = let s = c .before .before .before .before .before in
     all-taken (c .before .peel .ensures) (one-way (s .pre .0)) (c .if1 .left)
 
-pub order-spec : {M : Type 1} → statement M
-order-spec =
+pub put-in-order-spec : {M : Type 1} → statement M
+put-in-order-spec =
     tie.close
     (tie.spec sources-requires peel-requires leftover-requires returns returns-2)
