@@ -99,10 +99,13 @@ coverPlaces covers = cond (sizeFits covers) (entries covers) 1
 unfoldable pub coverFits : List ℕ → ℕ → Bool
 coverFits covers e = sizeFits covers && entryFits covers e
 
+abbrev pub coverTest : List ℕ → Test
+coverTest covers = record { places = coverPlaces covers; fails = λ e. not (coverFits covers e); called = coverTable }
+
 -- tests 3 to 6
 unfoldable pub mapTests : Setup → List Test
 mapTests s =
-    record { places = coverPlaces (s .covers); fails = λ e. not (coverFits (s .covers) e); called = coverTable }
+    coverTest (s .covers)
     ∷ record { places = cells s; fails = λ i. not (cellFits s i); called = cellNumbers }
     ∷ record { places = cells s; fails = λ i. onRing (cells s) (next s) i; called = ring }
     ∷ single (seasonFits (s .season)) season

@@ -11,11 +11,11 @@ use Rattle.paper.specs.Setup.{Setup, cells, gridFits}
 use Rattle.paper.specs.Day.{checkOf}
 use Rattle.paper.specs.Refusals.{Refusal, grid, lent, Verdict, accepted, verdict, single, refused, oneEach, setupLengths, setupTests, mapTests}
 use Rattle.paper.proofs.RefusalLaws.{pass-single, fail-single}
-use Rattle.records.specs.Calls.{refusedAs, outcomeIn}
-use Rattle.records.specs.declared.answers.Outcome.{Outcome}
-use Rattle.records.specs.declared.answers.Outcome.the-variants.{Accepted}
-use Rattle.records.proofs.OutcomeLaws.{accepted-back}
-use Rattle.survey.specs.Survey.{Blank, Surveyable, Chart, Surveyed}
+use Rattle.records.specs.Verdicts.{refusalIn, verdictIn}
+use Rattle.records.specs.declared.verdicts.Verdict as code
+use Rattle.records.specs.declared.verdicts.Verdict.the-variants.{Accepted, Refused}
+use Rattle.records.proofs.VerdictLaws.{accepted-back}
+use Rattle.survey.specs.Survey.{Wiped, Surveyable, Chart, Surveyed}
 
 both : (b : Bool) → (b && true) ≡ b
 both true = refl
@@ -29,23 +29,23 @@ each-both n (x ∷ xs) ys = ap (λ (b : Bool). eqb x n && b) (each-both n xs ys)
 
 module _ (s : Setup) where
   module _ (lengths : List ℕ) where
-    pub grid-bad : gridFits s ≡ false → verdict (setupTests s lengths) ≡ refused grid
+    pub grid-bad : gridFits (s .grid) ≡ false → verdict (setupTests s lengths) ≡ refused grid
     unfolding setupTests
     grid-bad e = fail-single _ _ grid e
 
-    pub lent-bad : gridFits s ≡ true → oneEach (cells s) lengths ≡ false → verdict (setupTests s lengths) ≡ refused lent
+    pub lent-bad : gridFits (s .grid) ≡ true → oneEach (cells s) lengths ≡ false → verdict (setupTests s lengths) ≡ refused lent
     unfolding setupTests
     lent-bad g e = pass-single _ _ grid g ∙ fail-single _ _ lent e
 
-    pub on-the-map : gridFits s ≡ true → oneEach (cells s) lengths ≡ true → verdict (setupTests s lengths) ≡ verdict (mapTests s)
+    pub on-the-map : gridFits (s .grid) ≡ true → oneEach (cells s) lengths ≡ true → verdict (setupTests s lengths) ≡ verdict (mapTests s)
     unfolding setupTests
     on-the-map g e = pass-single _ _ grid g ∙ pass-single _ _ lent e
 
-  pub few-cells : gridFits s ≡ true → cells s ≤ 4096
+  pub few-cells : gridFits (s .grid) ≡ true → cells s ≤ 4096
   unfolding gridFits
   few-cells g = leb-true _ _ (search (and-left, and-right))
 
-  pub surveyable : gridFits s ≡ true → oneEach (cells s) (setupLengths s) ≡ true → Surveyable s
+  pub surveyable : gridFits (s .grid) ≡ true → oneEach (cells s) (setupLengths s) ≡ true → Surveyable s
   unfolding gridFits setupLengths oneEach
   surveyable g e =
       record {
@@ -59,34 +59,34 @@ module _ (s : Setup) where
       }
 
   -- a setup refused leaves the arrays empty
-  pub refuse-survey : (before ways₀ : List ℕ) (r : Outcome) (why : Refusal) (slots ways order : List ℕ) → checkOf s ≡ refused why → r ≡ refusedAs why → Blank slots ways order
+  pub refuse-survey : (before ways₀ : List ℕ) (r : code.Verdict) (why : Refusal) (slots ways order : List ℕ) → checkOf s ≡ refused why → r ≡ Refused (refusalIn why) → Wiped slots ways order
       → Surveyed s before ways₀ r slots ways order
-  refuse-survey before ways₀ r why slots ways order v e blank =
+  refuse-survey before ways₀ r why slots ways order v e wiped =
       record {
-        outcome = e ∙ sym (ap outcomeIn v);
+        verdict-is = e ∙ sym (ap verdictIn v);
         mapped = λ a. absurd (let z : _≡_ {A = ℕ} 0 1 = cc in omega arith);
-        blank = λ w q. blank;
+        wiped = λ w q. wiped;
       }
 
-  module _ (grid : gridFits s ≡ true) (each : oneEach (cells s) (setupLengths s) ≡ true) where
+  module _ (grid : gridFits (s .grid) ≡ true) (each : oneEach (cells s) (setupLengths s) ≡ true) where
     check-is : checkOf s ≡ verdict (mapTests s)
     unfolding checkOf
     check-is = on-the-map (setupLengths s) grid each
 
-    pub chart-refuses : (before ways₀ : List ℕ) (r : Outcome) (slots ways order : List ℕ) → r ≡ outcomeIn (verdict (mapTests s)) → (r ≡ Accepted → ⊥) → Blank slots ways order
+    pub chart-refuses : (before ways₀ : List ℕ) (r : code.Verdict) (slots ways order : List ℕ) → r ≡ verdictIn (verdict (mapTests s)) → (r ≡ Accepted → ⊥) → Wiped slots ways order
         → Surveyed s before ways₀ r slots ways order
-    chart-refuses before ways₀ r slots ways order e not blank = go (verdict (mapTests s)) refl
+    chart-refuses before ways₀ r slots ways order e not wiped = go (verdict (mapTests s)) refl
       where
         go : (v : Verdict) → verdict (mapTests s) ≡ v → Surveyed s before ways₀ r slots ways order
-        go accepted q = absurd (not (e ∙ ap outcomeIn q))
-        go (refused why) q = refuse-survey before ways₀ r why slots ways order (check-is ∙ q) (e ∙ ap outcomeIn q) blank
+        go accepted q = absurd (not (e ∙ ap verdictIn q))
+        go (refused why) q = refuse-survey before ways₀ r why slots ways order (check-is ∙ q) (e ∙ ap verdictIn q) wiped
 
     pub chart-passes : (before ways₀ slots ways order : List ℕ) → Chart s before ways₀ Accepted slots ways order → Surveyed s before ways₀ Accepted slots ways order
     chart-passes before ways₀ slots ways order chart =
         record {
-          outcome = chart .outcome ∙ sym (ap outcomeIn check-is);
+          verdict-is = chart .verdict-is ∙ sym (ap verdictIn check-is);
           mapped = λ a. chart .mapped (sym check-is ∙ a);
-          blank = λ why q. absurd (let v : checkOf s ≡ accepted = accepted-back _ (chart .outcome ∙ sym (ap outcomeIn check-is)) in let z : _≡_ {A = ℕ} 0 1 = cc in omega arith);
+          wiped = λ why q. absurd (let v : checkOf s ≡ accepted = accepted-back _ (chart .verdict-is ∙ sym (ap verdictIn check-is)) in let z : _≡_ {A = ℕ} 0 1 = cc in omega arith);
         }
 
   -- with more slices lent: where each of them has one entry a cell, the verdict is the setup check's
@@ -94,8 +94,8 @@ module _ (s : Setup) where
     pub more-fit : oneEach (cells s) more ≡ true → verdict (setupTests s (setupLengths s ++ more)) ≡ checkOf s
     unfolding checkOf setupTests
     more-fit e =
-        ap (λ (b : Bool). verdict (single (gridFits s) grid ∷ single b lent ∷ mapTests s))
+        ap (λ (b : Bool). verdict (single (gridFits (s .grid)) grid ∷ single b lent ∷ mapTests s))
         (each-both (cells s) (setupLengths s) more ∙ rw e (both (oneEach (cells s) (setupLengths s))))
 
-    pub more-bad : gridFits s ≡ true → oneEach (cells s) more ≡ false → verdict (setupTests s (setupLengths s ++ more)) ≡ refused lent
+    pub more-bad : gridFits (s .grid) ≡ true → oneEach (cells s) more ≡ false → verdict (setupTests s (setupLengths s ++ more)) ≡ refused lent
     more-bad g e = lent-bad (setupLengths s ++ more) g (each-both (cells s) (setupLengths s) more ∙ and-second (oneEach (cells s) (setupLengths s)) _ e)

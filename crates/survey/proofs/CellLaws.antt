@@ -9,11 +9,11 @@ use borrow.Author.Tests.{leb-true}
 use Rattle.theory.proofs.Cases.{and-left, and-right}
 use Rattle.paper.specs.Limits.{mostCells}
 use Rattle.paper.specs.Covers.{entries, openOf}
-use Rattle.paper.specs.Directions.{Goes, stays, wayOf, goesBy}
+use Rattle.paper.specs.Directions.{Goes, openWater, wayOf, goesBy}
 use Rattle.paper.specs.Setup.{Setup, cell, cells, entryOf, groupOf, waterOf, cellFits, isOpen, goes, pointed, next}
 use Rattle.paper.proofs.SetupLaws.{Charted, entry-in, closed-by}
-use Rattle.survey.specs.Cells.{slotOf, cellFrom}
-use Rattle.survey.specs.Slots.{wayAt}
+use Rattle.covers.specs.Slots.{cellFrom}
+use Rattle.survey.specs.Cells.{slotOf, wayAt}
 
 module _ (s : Setup) (ok : Charted s) (i : ℕ) (h : i < cells s) where
   group-within : (1 ≤ groupOf s i) × (groupOf s i ≤ 4)
@@ -35,10 +35,10 @@ module _ (s : Setup) (ok : Charted s) (i : ℕ) (h : i < cells s) where
   unfolding cell cellFrom isOpen
   cell-is = rw (slot-entry, slot-group, closed-by s ok i h) refl
 
-  pub way-is : (slot : ℕ → ℕ) → slot i ≡ slotOf s i → next s i ≡ wayAt (s .width) (s .height) (s .covers) slot (s .direction) i
+  pub way-is : (slot : ℕ → ℕ) → slot i ≡ slotOf s i → next s i ≡ wayAt (s .grid .width) (s .grid .height) (s .covers) slot (s .direction) i
   unfolding next goes wayAt isOpen
-  way-is slot e = rw (e, slot-entry) (go (eqb (openOf (s .covers) (entryOf s i)) 1) (goesBy (s .width) (s .height) i (wayOf (getD (s .direction) i 0))))
+  way-is slot e = rw (e, slot-entry) (go (eqb (openOf (s .covers) (entryOf s i)) 1) (goesBy (s .grid .width) (s .grid .height) i (wayOf (getD (s .direction) i 0))))
     where
-      go : (b : Bool) (g : Goes) → pointed (cond b stays g) ≡ cond b (suc mostCells) (pointed g)
+      go : (b : Bool) (g : Goes) → pointed (cond b openWater g) ≡ cond b (suc (suc mostCells)) (pointed g)
       go true g = unfold pointed in refl
       go Bool.false g = refl

@@ -13,7 +13,7 @@ use Rattle.paper.specs.Day.{checkOf}
 use Rattle.paper.proofs.SetupLaws.{Charted, Sound, sound}
 use Rattle.survey.specs.Cells.{slotOf, cellIn, SlotsFit}
 use Rattle.survey.proofs.CellLaws.{slot-limit, cell-is}
-use Rattle.survey.proofs.WayArrays.{over-at}
+use Rattle.theory.proofs.ListLaws.{over-at}
 
 pub sound-setup : (s : Setup) → checkOf s ≡ accepted → Sound s (setupLengths s)
 unfolding checkOf

@@ -3,29 +3,32 @@
 use mathlib.Core.Path.{_≡_, refl, sym, ap, _∙_}
 use mathlib.Core.Bool.{Bool, true, false, cond, not, _&&_, false≢true}
 use mathlib.Core.List.{List}
-use Prim.Native.Nat.{ℕ, suc, _+_, _*_, _-_, _≤_, _<_, zero-le}
+use Prim.Native.Nat.{ℕ, suc, _+_, _*_, _/_, _-_, _≤_, _<_, zero-le}
 use native.Mathlib.Nat.{le-trans}
 use native.Mathlib.Omega.{arith}
 use lib.Dec.{eqb, leb}
-use lib.ListN.{getD, List·getD-eq-default}
+use lib.ListN.{length, getD, List·getD-eq-default}
 use borrow.Author.Tests.{eq-eqb, ne-eqb, eqb-true, eqb-false, leb-true}
 use Rattle.theory.proofs.Cases.{byCases, below-or-not, cond-true, cond-false, and-left, and-right}
+use Rattle.theory.proofs.ListLaws.{made-length, made-at}
 use Rattle.theory.proofs.LowestLaws.{lowest-at, none-lowest}
 use Rattle.theory.specs.Lowest.{Found, at, nowhere, isFound, lowest, some}
 use Rattle.paper.specs.Limits.{within, mostAvailableWater}
 use Rattle.paper.specs.Covers.{codeOf, entries}
-use Rattle.paper.specs.Setup.{Setup, coverOf, groupOf, waterOf, entryOf, place, cellFits}
-use Rattle.survey.specs.Cells.{slotOf}
-use Rattle.survey.specs.Covers.{oneMore, EntriesFit, Indexed}
-use Rattle.survey.specs.Slots.{slotIn, slotAt, IndexFits}
-use Rattle.survey.proofs.CoverLaws.{code-limit, count-limit}
+use Rattle.paper.specs.Setup.{Setup, coverOf, groupOf, waterOf, entryOf, placeOr, cellFits}
+use Rattle.covers.specs.Table.{oneMore, EntriesFit, found, indexOf}
+use Rattle.covers.proofs.TableLaws.{code-limit, count-limit}
+use Rattle.survey.specs.Cells.{slotOf, slotIn, slotAt, IndexFits}
+
+pub group-in : (group water : ℕ) → (within 1 4 group && leb water mostAvailableWater) ≡ true → (1 ≤ group) × (group ≤ 4)
+group-in group water b = (leb-true _ _ (search (and-left, and-right)), leb-true _ _ (search (and-left, and-right)))
 
 module _ (index : List ℕ) (code group water : ℕ) where
   pub slot-none : getD index code 0 ≡ 0 → 256 ≡ slotIn index code group water
   unfolding slotIn
   slot-none e = sym (cond-true (eqb (getD index code 0) 0) (eq-eqb _ _ e) _ _)
 
-  pub slot-past : IndexFits index → 255 < code → 256 ≡ slotIn index code group water
+  pub slot-past : IndexFits index → 256 ≤ code → 256 ≡ slotIn index code group water
   slot-past fits h = slot-none (List·getD-eq-default index 0 {n = code} (rw (fits .sized) h))
 
   pub slot-bad : (within 1 4 group && leb water mostAvailableWater) ≡ false → 256 ≡ slotIn index code group water
@@ -52,21 +55,30 @@ module _ (index : List ℕ) (code group water : ℕ) where
       omega (arith, e, slot-good present b))
       (λ b. absurd (some (e ∙ sym (slot-bad b)))))
 
+-- the whole entry of a slot stands in the table
+pub whole-entry : (covers : List ℕ) (slot : ℕ) → slot < 4 * entries covers → 16 * (slot / 4) + 16 ≤ length covers
+unfolding entries
+whole-entry covers slot h = omega arith
+
 -- what the search finds below k is at most k when counted from 1
 more-most : (k : ℕ) (test : ℕ → Bool) (f : Found) → lowest k test ≡ f → oneMore f ≤ k
 unfolding oneMore
 more-most k test (at e) found = lowest-at k test found .0
 more-most k test nowhere found = zero-le
 
-module _ (covers index : List ℕ) (fit : EntriesFit covers) (known : Indexed covers (entries covers) index) where
+module _ (covers index : List ℕ) (fit : EntriesFit covers) (known : index ≡ indexOf covers (entries covers)) where
+  sized : length index ≡ 256
+  unfolding indexOf
+  sized = ap length known ∙ made-length 256 _
+
   -- also past 255, where no entry has its code
   index-at : (code : ℕ) → getD index code 0 ≡ oneMore (lowest (entries covers) (λ e. eqb (codeOf covers e) code))
-  unfolding oneMore
+  unfolding oneMore indexOf found
   index-at code =
-      below-or-not code 256 (known .found code)
+      below-or-not code 256 (λ h. rw known (made-at 256 _ 0 code h))
       (λ past. rw (none-lowest (entries covers) (λ e. eqb (codeOf covers e) code)
       (λ e h. ne-eqb _ _ (λ (same : codeOf covers e ≡ code). let low : codeOf covers e < 256 = code-limit covers fit e h in omega arith)))
-      (List·getD-eq-default index 0 {n = code} (rw (known .sized) past)))
+      (List·getD-eq-default index 0 {n = code} (rw sized past)))
 
   pub index-entered : (code : ℕ) → getD index code 0 ≤ entries covers
   index-entered code = rw (index-at code) (more-most (entries covers) _ _ refl)
@@ -74,7 +86,7 @@ module _ (covers index : List ℕ) (fit : EntriesFit covers) (known : Indexed co
   pub index-fits : IndexFits index
   index-fits =
       record {
-        sized = known .sized;
+        sized = sized;
         few = λ code. le-trans (index-entered code) (count-limit covers fit);
       }
 
@@ -94,7 +106,7 @@ module _ (covers index : List ℕ) (fit : EntriesFit covers) (known : Indexed co
       rw b (ne-eqb (4 * (suc e - 1) + (group - 1)) 256 (λ (z : 4 * (suc e - 1) + (group - 1) ≡ 256). omega arith)))
       (λ b. rw b refl))
 
-module _ (s : Setup) (index : List ℕ) (fit : EntriesFit (s .covers)) (known : Indexed (s .covers) (entries (s .covers)) index) where
+module _ (s : Setup) (index : List ℕ) (fit : EntriesFit (s .covers)) (known : index ≡ indexOf (s .covers) (entries (s .covers))) where
   slot-at : (i : ℕ)
       → slotAt index (s .cover) (s .group) (s .water) i
       ≡ slot-by (s .covers) index fit known (lowest (entries (s .covers)) (λ e. eqb (codeOf (s .covers) e) (coverOf s i))) (groupOf s i) (waterOf s i)
@@ -111,11 +123,11 @@ module _ (s : Setup) (index : List ℕ) (fit : EntriesFit (s .covers)) (known : 
 
   -- and where it passes, the slot is that of its entry and group
   pub slot-is : (i : ℕ) → cellFits s i ≡ true → slotAt index (s .cover) (s .group) (s .water) i ≡ slotOf s i
-  unfolding slot-by cellFits some entryOf place isFound oneMore
+  unfolding slot-by cellFits some entryOf placeOr isFound oneMore
   slot-is i fits = slot-at i ∙ go (lowest (entries (s .covers)) (λ e. eqb (codeOf (s .covers) e) (coverOf s i))) fits
     where
       go : (f : Found) → (isFound f && within 1 4 (groupOf s i) && leb (waterOf s i) mostAvailableWater) ≡ true
-          → slot-by (s .covers) index fit known f (groupOf s i) (waterOf s i) ≡ 4 * place f + (groupOf s i - 1)
+          → slot-by (s .covers) index fit known f (groupOf s i) (waterOf s i) ≡ 4 * placeOr (entries (s .covers)) f + (groupOf s i - 1)
       go nowhere b = absurd (false≢true b)
       go (at e) b =
           rw (ne-eqb (suc e) 0 (λ (z : suc e ≡ 0). omega arith), b)

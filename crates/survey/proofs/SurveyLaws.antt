@@ -8,43 +8,31 @@ use native.Mathlib.Omega.{arith}
 use lib.ListN.{length, drop}
 use borrow.Author.Tests.{not-false}
 use Rattle.theory.specs.Lists.{madeOver}
-use Rattle.theory.specs.Lowest.{Found, at, nowhere, lowest}
+use Rattle.theory.specs.Lowest.{at, nowhere, lowest}
 use Rattle.theory.specs.Ways.{onRing}
-use Rattle.theory.proofs.Cases.{cond-true, cond-false}
 use Rattle.theory.proofs.ListLaws.{made-cong, over-length}
-use Rattle.theory.proofs.LowestLaws.{lowest-none, at-lowest, lowest-cong}
-use Rattle.paper.specs.Covers.{entries, sizeFits, entryFits}
-use Rattle.paper.specs.Setup.{Setup, cells, cellFits, seasonFits, next}
-use Rattle.paper.specs.Refusals.{Refusal, coverTable, cellNumbers, ring, season, accepted, refused, Test, verdict, single, coverPlaces, coverFits, mapTests}
-use Rattle.paper.proofs.RefusalLaws.{pass-single, fail-single, pass-many, fail-many}
-use Rattle.records.specs.Calls.{refusedAs, outcomeIn}
+use Rattle.theory.proofs.LowestLaws.{lowest-none, lowest-cong}
+use Rattle.paper.specs.Covers.{entries}
+use Rattle.paper.specs.Setup.{Setup, cells, cellsIn, cellFits, seasonFits, next}
+use Rattle.paper.specs.Refusals.{Refusal, Verdict, cellNumbers, ring, season, accepted, refused, Test, verdict, single, coverTest, mapTests}
+use Rattle.paper.proofs.RefusalLaws.{pass-single, fail-single, pass-many, fail-many, accepted-then, refused-then}
+use Rattle.records.proofs.PlaceLaws.{found-at, found-no}
+use Rattle.records.specs.Verdicts.{refusalIn, verdictIn}
 use Rattle.survey.specs.Survey.{Surveyable, Chart}
-use Rattle.survey.specs.Cells.{slotOf}
-use Rattle.survey.specs.Slots.{slotAt, wayAt, Layable, LaidOrBad}
+use Rattle.survey.specs.Cells.{slotOf, slotAt, wayAt, Layable, LaidOrBad}
 use Rattle.survey.specs.Peeling.{Counted}
 use Rattle.survey.specs.Routes.{nextIn, WaysIn, OrderedBy, OrderOrRing}
-use Rattle.records.specs.declared.answers.Outcome.the-variants.{Accepted}
+use Rattle.records.specs.declared.verdicts.Verdict.the-variants.{Accepted, Refused}
 use Rattle.paper.proofs.SetupLaws.{Charted, next-past}
 use Rattle.survey.proofs.SlotLaws.{index-fits, index-entered, slot-test, slot-is}
 use Rattle.survey.proofs.CellLaws.{way-is}
-use Rattle.survey.proofs.WayArrays.{ways-next}
-use Rattle.survey.proofs.QueueLaws.{count-by}
-use Rattle.records.specs.declared.answers.Outcome.{Outcome}
-use Rattle.survey.specs.Covers.{EntriesFit, Indexed}
+use Rattle.survey.proofs.CountLaws.{ways-next, count-by}
+use Rattle.records.specs.declared.verdicts.Verdict as code
+use Rattle.covers.specs.Table.{EntriesFit, indexOf}
+use Rattle.covers.proofs.TableLaws.{accepted-table}
 use Rattle.records.specs.Places.{placeIn}
-use Rattle.records.specs.declared.answers.Place.{Place}
-use Rattle.records.specs.declared.answers.Place.the-variants.{At, Nowhere}
-
--- what a search's answer says of what it found
-pub found-at : (f : Found) (i : ℕ) → At i ≡ placeIn f → f ≡ at i
-unfolding placeIn
-found-at (at j) i e = let same : i ≡ j = cc in ap at (sym same)
-found-at nowhere i e = absurd (let z : _≡_ {A = ℕ} 0 1 = cc in omega arith)
-
-pub found-no : (f : Found) → Nowhere ≡ placeIn f → f ≡ nowhere
-unfolding placeIn
-found-no (at j) e = absurd (let z : _≡_ {A = ℕ} 0 1 = cc in omega arith)
-found-no nowhere e = refl
+use Rattle.records.specs.declared.places.Place.{Place}
+use Rattle.records.specs.declared.places.Place.the-variants.{At, Nowhere}
 
 module _ (s : Setup) where
   abbrev cellTest : Test
@@ -53,74 +41,67 @@ module _ (s : Setup) where
   abbrev ringTest : Test
   ringTest = record { places = cells s; fails = λ i. onRing (cells s) (next s) i; called = ring }
 
-  cover-search : sizeFits (s .covers) ≡ true
-      → lowest (coverPlaces (s .covers)) (λ e. not (coverFits (s .covers) e)) ≡ lowest (entries (s .covers)) (λ e. not (entryFits (s .covers) e))
-  unfolding coverPlaces coverFits
-  cover-search size = rw (cond-true (sizeFits (s .covers)) size, size) refl
-
-  pub size-bad : sizeFits (s .covers) ≡ false → verdict (mapTests s) ≡ refused (coverTable 0)
-  unfolding mapTests coverPlaces coverFits
-  size-bad size =
-      fail-many _ _ 0
-      (at-lowest _ _ 0 (rw (cond-false (sizeFits (s .covers)) size) (omega arith)) (rw size refl) (λ j h. absurd (omega arith)))
-
-  module _ (size : sizeFits (s .covers) ≡ true) where
-    pub entry-bad : (e : ℕ) → lowest (entries (s .covers)) (λ k. not (entryFits (s .covers) k)) ≡ at e
-        → verdict (mapTests s) ≡ refused (coverTable e)
-    unfolding mapTests
-    entry-bad e found = fail-many _ _ e (cover-search size ∙ found)
-
-    module _ (none : lowest (entries (s .covers)) (λ k. not (entryFits (s .covers) k)) ≡ nowhere) where
-      pub entries-fit : EntriesFit (s .covers)
-      entries-fit = record { sized = size; fit = λ e h. not-false _ (lowest-none _ _ none e h) }
-
-      covers-pass : verdict (mapTests s) ≡ verdict (cellTest ∷ ringTest ∷ single (seasonFits s) season ∷ [])
-      unfolding mapTests
-      covers-pass = pass-many _ _ (cover-search size ∙ none)
-
-      pub cell-bad : (i : ℕ) → lowest (cells s) (λ k. not (cellFits s k)) ≡ at i → verdict (mapTests s) ≡ refused (cellNumbers i)
-      cell-bad i found = covers-pass ∙ fail-many _ cellTest i found
-
-      module _ (fit : lowest (cells s) (λ k. not (cellFits s k)) ≡ nowhere) where
-        cells-pass : verdict (mapTests s) ≡ verdict (ringTest ∷ single (seasonFits s) season ∷ [])
-        cells-pass = covers-pass ∙ pass-many _ cellTest fit
-
-        pub ring-bad : (i : ℕ) → lowest (cells s) (onRing (cells s) (next s)) ≡ at i → verdict (mapTests s) ≡ refused (ring i)
-        ring-bad i found = cells-pass ∙ fail-many _ ringTest i found
-
-        module _ (free : lowest (cells s) (onRing (cells s) (next s)) ≡ nowhere) where
-          pub season-bad : seasonFits s ≡ false → verdict (mapTests s) ≡ refused season
-          season-bad e = cells-pass ∙ pass-many _ ringTest free ∙ fail-single _ _ season e
-
-          pub all-pass : seasonFits s ≡ true → verdict (mapTests s) ≡ accepted
-          unfolding verdict
-          all-pass e = cells-pass ∙ pass-many (single (seasonFits s) season ∷ []) ringTest free ∙ pass-single [] _ season e
+  -- the tests after the cover table's
+  abbrev later : List Test
+  later = cellTest ∷ ringTest ∷ single (seasonFits (s .season)) season ∷ []
 
   -- a refusal, in the code's own words
-  pub refuse : (lent ways₀ : List ℕ) (r : Outcome) (why : Refusal) (slots ways order : List ℕ) → verdict (mapTests s) ≡ refused why → r ≡ refusedAs why
-      → Chart s lent ways₀ r slots ways order
-  refuse lent ways₀ r why slots ways order v e =
+  refuse : (lent ways₀ : List ℕ) (why : Refusal) (slots ways order : List ℕ) → verdict (mapTests s) ≡ refused why
+      → Chart s lent ways₀ (Refused (refusalIn why)) slots ways order
+  refuse lent ways₀ why slots ways order v =
       record {
-        outcome = e ∙ sym (ap outcomeIn v);
+        verdict-is = sym (ap verdictIn v);
         mapped = λ a. absurd (let z : _≡_ {A = ℕ} 0 1 = cc in omega arith);
       }
 
+  pub table-refuses : (lent ways₀ : List ℕ) (r : code.Verdict) (slots ways order : List ℕ) → r ≡ verdictIn (verdict (coverTest (s .covers) ∷ []))
+      → (r ≡ Accepted → ⊥) → Chart s lent ways₀ r slots ways order
+  unfolding mapTests
+  table-refuses lent ways₀ r slots ways order e not = go (verdict (coverTest (s .covers) ∷ [])) refl
+    where
+      go : (v : Verdict) → verdict (coverTest (s .covers) ∷ []) ≡ v → Chart s lent ways₀ r slots ways order
+      go accepted q = absurd (not (e ∙ ap verdictIn q))
+      go (refused why) q =
+          rw (e ∙ ap verdictIn q) (refuse lent ways₀ why slots ways order (refused-then later (coverTest (s .covers) ∷ []) why q))
+
+  module _ (table : verdict (coverTest (s .covers) ∷ []) ≡ accepted) where
+    covers-pass : verdict (mapTests s) ≡ verdict later
+    unfolding mapTests
+    covers-pass = accepted-then later (coverTest (s .covers) ∷ []) table
+
+    cell-bad : (i : ℕ) → lowest (cells s) (λ k. not (cellFits s k)) ≡ at i → verdict (mapTests s) ≡ refused (cellNumbers i)
+    cell-bad i found = covers-pass ∙ fail-many _ cellTest i found
+
+    module _ (fit : lowest (cells s) (λ k. not (cellFits s k)) ≡ nowhere) where
+      cells-pass : verdict (mapTests s) ≡ verdict (ringTest ∷ single (seasonFits (s .season)) season ∷ [])
+      cells-pass = covers-pass ∙ pass-many _ cellTest fit
+
+      ring-bad : (i : ℕ) → lowest (cells s) (onRing (cells s) (next s)) ≡ at i → verdict (mapTests s) ≡ refused (ring i)
+      ring-bad i found = cells-pass ∙ fail-many _ ringTest i found
+
+      module _ (free : lowest (cells s) (onRing (cells s) (next s)) ≡ nowhere) where
+        season-bad : seasonFits (s .season) ≡ false → verdict (mapTests s) ≡ refused season
+        season-bad e = cells-pass ∙ pass-many _ ringTest free ∙ fail-single _ _ season e
+
+        all-pass : seasonFits (s .season) ≡ true → verdict (mapTests s) ≡ accepted
+        unfolding verdict
+        all-pass e = cells-pass ∙ pass-many (single (seasonFits (s .season)) season ∷ []) ringTest free ∙ pass-single [] _ season e
+
 -- the arrays, stage by stage
-module _ (s : Setup) (lent ways₀ : List ℕ) (pre : Surveyable s) (size : sizeFits (s .covers) ≡ true)
-    (none : lowest (entries (s .covers)) (λ k. not (entryFits (s .covers) k)) ≡ nowhere)
-    (index : List ℕ) (known : Indexed (s .covers) (entries (s .covers)) index)
+module _ (s : Setup) (lent ways₀ : List ℕ) (pre : Surveyable s) (table : verdict (coverTest (s .covers) ∷ []) ≡ accepted)
+    (index : List ℕ) (known : index ≡ indexOf (s .covers) (entries (s .covers)))
     (slots-sized : length lent ≡ 4096) (ways-sized : length ways₀ ≡ 4096) where
   fit : EntriesFit (s .covers)
-  fit = entries-fit s size none
+  fit = accepted-table (s .covers) table
 
   abbrev slot : ℕ → ℕ
   slot = slotAt index (s .cover) (s .group) (s .water)
 
   abbrev way : ℕ → ℕ
-  way = wayAt (s .width) (s .height) (s .covers) slot (s .direction)
+  way = wayAt (s .grid .width) (s .grid .height) (s .covers) slot (s .direction)
 
-  pub lay-ask : Layable (s .width) (s .height) index (s .covers) (s .direction) (s .cover) (s .group) (s .water) lent ways₀
-  unfolding cells
+  pub lay-ask : Layable (s .grid .width) (s .grid .height) index (s .covers) (s .direction) (s .cover) (s .group) (s .water) lent ways₀
+  unfolding cellsIn
   lay-ask =
       record {
         wide = pre .wide;
@@ -135,16 +116,16 @@ module _ (s : Setup) (lent ways₀ : List ℕ) (pre : Surveyable s) (size : size
         ways-sized = ways-sized;
       }
 
-  module _ (r : Place) (slots ways counts : List ℕ) (lb : LaidOrBad (s .width * s .height) slot way r lent slots ways₀ ways counts) where
+  module _ (r : Place) (slots ways counts : List ℕ) (lb : LaidOrBad (s .grid .width * s .grid .height) slot way r lent slots ways₀ ways counts) where
     search-is : r ≡ placeIn (lowest (cells s) (λ i. not (cellFits s i)))
-    unfolding cells
+    unfolding cellsIn
     search-is = lb .lowest-bad ∙ ap placeIn (lowest-cong (cells s) _ _ (λ i h. slot-test s index fit known i))
 
-    pub cell-found : (i : ℕ) → r ≡ At i → lowest (cells s) (λ k. not (cellFits s k)) ≡ at i
-    cell-found i e = found-at _ i (sym e ∙ search-is)
+    pub cell-refuses : (i : ℕ) (order : List ℕ) → r ≡ At i → Chart s lent ways₀ (Refused (refusalIn (cellNumbers i))) slots ways order
+    cell-refuses i order e = refuse s lent ways₀ (cellNumbers i) slots ways order (cell-bad s table i (found-at _ i (sym e ∙ search-is)))
 
     module _ (through : r ≡ Nowhere) where
-      pub cells-fit : lowest (cells s) (λ k. not (cellFits s k)) ≡ nowhere
+      cells-fit : lowest (cells s) (λ k. not (cellFits s k)) ≡ nowhere
       cells-fit = found-no _ (sym through ∙ search-is)
 
       charted : Charted s
@@ -153,7 +134,7 @@ module _ (s : Setup) (lent ways₀ : List ℕ) (pre : Surveyable s) (size : size
             wide = pre .wide;
             high = pre .high;
             few = pre .few;
-            sized = size;
+            sized = fit .sized;
             entered = fit .fit;
             celled = λ i h. not-false _ (lowest-none _ _ cells-fit i h);
           }
@@ -162,14 +143,14 @@ module _ (s : Setup) (lent ways₀ : List ℕ) (pre : Surveyable s) (size : size
       slot-at i h = slot-is s index fit known i (charted .celled i h)
 
       slots-are : slots ≡ madeOver (cells s) (slotOf s) lent
-      unfolding madeOver cells
+      unfolding madeOver cellsIn
       slots-are = lb .slotted through ∙ ap (λ (l : List ℕ). l ++ drop (cells s) lent) (made-cong (cells s) slot (slotOf s) slot-at)
 
       slots-whole : length slots ≡ 4096
       slots-whole = ap length slots-are ∙ over-length (cells s) (slotOf s) lent (omega (arith, slots-sized, pre .few)) ∙ slots-sized
 
       ways-are : ways ≡ madeOver (cells s) (next s) ways₀
-      unfolding madeOver cells
+      unfolding madeOver cellsIn
       ways-are =
           lb .laid through
           ∙ ap (λ (l : List ℕ). l ++ drop (cells s) ways₀) (made-cong (cells s) way (next s) (λ i h. sym (way-is s charted i h slot (slot-at i h))))
@@ -178,10 +159,10 @@ module _ (s : Setup) (lent ways₀ : List ℕ) (pre : Surveyable s) (size : size
       ways-whole = ap length ways-are ∙ over-length (cells s) (next s) ways₀ (omega (arith, ways-sized, pre .few)) ∙ ways-sized
 
       ways-point : nextIn (cells s) ways ≡ next s
-      ways-point = ap (nextIn (cells s)) ways-are ∙ ways-next (cells s) (next s) ways₀ (next-past s charted (pre .directions))
+      ways-point = ap (nextIn (cells s)) ways-are ∙ ways-next (cells s) (next s) ways₀ (next-past s charted (pre .directions) (pre .covers))
 
       counts-are : Counted (cells s) (nextIn (cells s) ways) (cells s) counts
-      unfolding cells
+      unfolding cellsIn
       counts-are = rw ways-point (count-by (lb .counted through) (next s) (λ i h. way-is s charted i h slot (slot-at i h)))
 
       pub order-ask : WaysIn (length (s .direction)) ways × Counted (length (s .direction)) (nextIn (length (s .direction)) ways) (length (s .direction)) counts
@@ -191,19 +172,30 @@ module _ (s : Setup) (lent ways₀ : List ℕ) (pre : Surveyable s) (size : size
         ring-is : found ≡ placeIn (lowest (cells s) (onRing (cells s) (next s)))
         ring-is = rw (pre .directions, ways-point) at (o .ring)
 
-        pub ring-found : (i : ℕ) → found ≡ At i → lowest (cells s) (onRing (cells s) (next s)) ≡ at i
-        ring-found i e = found-at _ i (sym e ∙ ring-is)
+        -- each way out after the order
+        pub ring-refuses : (i : ℕ) → found ≡ At i → Chart s lent ways₀ (Refused (refusalIn (ring i))) slots ways order
+        ring-refuses i e = refuse s lent ways₀ (ring i) slots ways order (ring-bad s table cells-fit i (found-at _ i (sym e ∙ ring-is)))
 
         module _ (straight : found ≡ Nowhere) where
-          pub no-ring : lowest (cells s) (onRing (cells s) (next s)) ≡ nowhere
+          no-ring : lowest (cells s) (onRing (cells s) (next s)) ≡ nowhere
           no-ring = found-no _ (sym straight ∙ ring-is)
 
           ordered-by : OrderedBy (cells s) (next s) order
           ordered-by = rw (pre .directions, ways-point) at (o .ordered straight)
 
-          pub surveyed : seasonFits s ≡ true → Chart s lent ways₀ Accepted slots ways order
+          pub season-refuses : seasonFits (s .season) ≡ false → Chart s lent ways₀ (Refused (refusalIn season)) slots ways order
+          season-refuses e = refuse s lent ways₀ season slots ways order (season-bad s table cells-fit no-ring e)
+
+          pub surveyed : seasonFits (s .season) ≡ true → Chart s lent ways₀ Accepted slots ways order
           surveyed e =
               record {
-                outcome = sym (ap outcomeIn (all-pass s size none cells-fit no-ring e));
-                mapped = λ a. record { slots-are = slots-are; slots-sized = slots-whole; ways-are = ways-are; ways-sized = ways-whole; ordered = ordered-by };
+                verdict-is = sym (ap verdictIn (all-pass s table cells-fit no-ring e));
+                mapped =
+                    λ a. record {
+                      slots-are = slots-are;
+                      slots-sized = slots-whole;
+                      ways-are = ways-are;
+                      ways-sized = ways-whole;
+                      ordered = ordered-by;
+                    };
               }

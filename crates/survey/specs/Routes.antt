@@ -8,8 +8,8 @@ use lib.ListN.{length, getD}
 use Rattle.theory.specs.Ways.{UpslopeFirst, onRing}
 use Rattle.theory.specs.Lowest.{lowest}
 use Rattle.paper.specs.Directions.{Step, less, same, more, Way, toward, closed, Goes, stays, stepped, cellAt}
-use Rattle.records.specs.declared.answers.Place.{Place}
-use Rattle.records.specs.declared.answers.Place.the-variants.{Nowhere}
+use Rattle.records.specs.declared.places.Place.{Place}
+use Rattle.records.specs.declared.places.Place.the-variants.{Nowhere}
 use Rattle.records.specs.Places.{placeIn}
 
 -- the steps as the code numbers them

@@ -8,21 +8,21 @@ use Rattle.paper.specs.Limits.{mostCells}
 use Rattle.paper.specs.Setup.{Setup, cells, next}
 use Rattle.paper.specs.Refusals.{Refusal, verdict, accepted, refused, mapTests}
 use Rattle.paper.specs.Day.{checkOf}
-use Rattle.records.specs.Calls.{outcomeIn}
-use Rattle.records.specs.declared.answers.Outcome.{Outcome}
+use Rattle.records.specs.Verdicts.{verdictIn}
+use Rattle.records.specs.declared.verdicts.Verdict.{Verdict}
 use Rattle.survey.specs.Cells.{slotOf}
 use Rattle.survey.specs.Routes.{OrderedBy}
 
--- arrays that hold nothing yet
-pub record Blank (slots ways order : List ℕ) : Type 0 where
+-- arrays that hold nothing
+pub record Wiped (slots ways order : List ℕ) : Type 0 where
   pub no-slots : slots ≡ replicate 4096 0
   pub no-ways : ways ≡ replicate 4096 4097
   pub no-order : order ≡ replicate 4096 0
 
 -- a grid within its limits, with one entry a cell
 pub record Surveyable (s : Setup) : Type 0 where
-  pub wide : 1 ≤ s .width
-  pub high : 1 ≤ s .height
+  pub wide : 1 ≤ s .grid .width
+  pub high : 1 ≤ s .grid .height
   pub few : cells s ≤ mostCells
   pub directions : length (s .direction) ≡ cells s
   pub covers : length (s .cover) ≡ cells s
@@ -38,12 +38,12 @@ pub record Mapped (s : Setup) (lent ways₀ slots ways order : List ℕ) : Type 
   pub ordered : OrderedBy (cells s) (next s) order
 
 -- after tests 3 to 6
-pub record Chart (s : Setup) (lent ways₀ : List ℕ) (r : Outcome) (slots ways order : List ℕ) : Type 0 where
-  pub outcome : r ≡ outcomeIn (verdict (mapTests s))
+pub record Chart (s : Setup) (lent ways₀ : List ℕ) (r : Verdict) (slots ways order : List ℕ) : Type 0 where
+  pub verdict-is : r ≡ verdictIn (verdict (mapTests s))
   pub mapped : verdict (mapTests s) ≡ accepted → Mapped s lent ways₀ slots ways order
 
--- after tests 1 to 6: refused, the arrays hold nothing
-pub record Surveyed (s : Setup) (lent ways₀ : List ℕ) (r : Outcome) (slots ways order : List ℕ) : Type 0 where
-  pub outcome : r ≡ outcomeIn (checkOf s)
+-- after tests 1 to 6: refused, the arrays are wiped
+pub record Surveyed (s : Setup) (lent ways₀ : List ℕ) (r : Verdict) (slots ways order : List ℕ) : Type 0 where
+  pub verdict-is : r ≡ verdictIn (checkOf s)
   pub mapped : checkOf s ≡ accepted → Mapped s lent ways₀ slots ways order
-  pub blank : (why : Refusal) → checkOf s ≡ refused why → Blank slots ways order
+  pub wiped : (why : Refusal) → checkOf s ≡ refused why → Wiped slots ways order

@@ -1,39 +1,46 @@
 // The cells' own numbers, test 4, where each cell points, and how many lead to it.
 ghost use mathlib.Core.Path.{_≡_};
 ghost use Prim.Native.Nat.{_*_, _≤_, _<_};
-ghost use Rattle.survey.specs.Slots.{slotIn, slotAt, IndexFits, wayFrom, wayAt, Layable, LaidOrBad};
+ghost use Rattle.survey.specs.Cells.{slotIn, slotAt, IndexFits, wayFrom, wayAt, Layable, LaidOrBad};
 use crate::order::none_waiting;
 use crate::order::wait_for;
-use crate::ways::STAYS;
+use crate::ways::OPEN_WATER;
 use crate::ways::way;
+use covers::CODES;
+use covers::ENTRY_NUMBERS;
+use covers::MOST_SLOTS;
+use covers::OPEN_FLAG;
+use covers::small_place;
+use records::MOST_CELLS;
 use records::Place;
 use records::place;
 
-// No slot: past those of 64 entries with four groups each.
-const NONE: u32 = 256;
+// Past every slot.
+const NO_SLOT: usize = MOST_SLOTS;
+
+// Soil groups A to D are 1 to 4.
+const GROUPS: u32 = 4;
+
+// In hundredths of an inch per foot.
+pub const MOST_AVAILABLE_WATER: u32 = 600;
 
 // A cell's slot, 4 × its cover's entry + its group - 1, where its three numbers are within their limits.
-fn slot(index: &[u32; 256], code: u32, group: u32, water: u32) -> u32
+fn slot(index: &[u8; CODES], code: u32, group: u32, water: u32) -> usize
     requires { ⌜ IndexFits (now index) ⌝ }
-    ensures { λ r. ⌜ r ≡ slotIn (now (index .entry)) code group water ⌝ }
+    ensures { λ r. ⌜ (r ≡ slotIn (now (index .entry)) code group water) × (r ≤ 256) ⌝ }
 {
-    if 255 < code {
-        return NONE;
+    let at = place(code);
+    if CODES <= at {
+        return NO_SLOT;
     }
-    let entry = index[place(code)];
+    let entry = small_place(index[at]);
     if entry == 0 {
-        return NONE;
+        return NO_SLOT;
     }
-    if group < 1 {
-        return NONE;
+    if !(((1 <= group) & (group <= GROUPS)) & (water <= MOST_AVAILABLE_WATER)) {
+        return NO_SLOT;
     }
-    if 4 < group {
-        return NONE;
-    }
-    if 600 < water {
-        return NONE;
-    }
-    4 * (entry - 1) + (group - 1)
+    4 * (entry - 1) + (place(group) - 1)
 }
 
 // Where a cell of that row and column points: open water nowhere, whatever its byte.
@@ -42,7 +49,7 @@ fn cell_way(width: u32, height: u32, row: u32, column: u32, lake: u32, byte: u32
     ensures { λ r. ⌜ r ≡ wayFrom width height row column lake byte ⌝ }
 {
     if lake == 1 {
-        return STAYS;
+        return OPEN_WATER;
     }
     way(width, height, row, column, byte)
 }
@@ -51,18 +58,23 @@ fn cell_way(width: u32, height: u32, row: u32, column: u32, lake: u32, byte: u32
 pub(crate) fn lay_cells(
     width: u32,
     height: u32,
-    index: &[u32; 256],
+    index: &[u8; CODES],
     covers: &[u32],
     direction: &[u32],
     cover: &[u32],
     group: &[u32],
     water: &[u32],
-    slots: &mut [u32],
+    slots: &mut [u8],
     ways: &mut [u32],
-    order: &mut [u32; 4096],
+    order: &mut [u32; MOST_CELLS],
 ) -> Place
-    requires { ⌜ Layable width height (now index) (now covers) (now direction) (now cover) (now group) (now water) (now slots) (now ways) ⌝ }
-    ensures { λ r. ⌜ LaidOrBad (width * height) (slotAt (now (index .entry)) (now (cover .entry)) (now (group .entry)) (now (water .entry))) (wayAt width height (now (covers .entry)) (slotAt (now (index .entry)) (now (cover .entry)) (now (group .entry)) (now (water .entry))) (now (direction .entry))) r (now (slots .entry)) (now (slots .exit)) (now (ways .entry)) (now (ways .exit)) (now (order .exit)) ⌝ }
+    requires { ⌜ Layable width height (now index) (now covers) (now direction) (now cover) (now group) (now water)
+        (now slots) (now ways) ⌝ }
+    ensures { λ r. ⌜ LaidOrBad (width * height)
+        (slotAt (now (index .entry)) (now (cover .entry)) (now (group .entry)) (now (water .entry)))
+        (wayAt width height (now (covers .entry))
+        (slotAt (now (index .entry)) (now (cover .entry)) (now (group .entry)) (now (water .entry))) (now (direction .entry)))
+        r (now (slots .entry)) (now (slots .exit)) (now (ways .entry)) (now (ways .exit)) (now (order .exit)) ⌝ }
 {
     let n = cover.len();
     none_waiting(n, order);
@@ -71,11 +83,11 @@ pub(crate) fn lay_cells(
     let mut i = 0;
     while i < n {
         let found = slot(index, cover[i], group[i], water[i]);
-        if found == NONE {
+        if found == NO_SLOT {
             return Place::At(i);
         }
-        slots[i] = found;
-        let lake = covers[16 * (place(found) / 4) + 1];
+        slots[i] = found as u8;
+        let lake = covers[ENTRY_NUMBERS * (found / 4) + OPEN_FLAG];
         let way = cell_way(width, height, row, column, lake, direction[i]);
         ways[i] = way;
         wait_for(n, way, order);

@@ -1,121 +1,155 @@
 // The survey of a setup: tests 1 to 6, and what a day needs of it: every cell's slot, where it points, and the order of the cells.
-ghost use Rattle.records.specs.Calls.{setupOf};
-ghost use Rattle.survey.specs.Survey.{Blank, Surveyable, Chart, Surveyed};
+ghost use mathlib.Core.Path.{_≡_};
+ghost use Rattle.paper.specs.Day.{checkOf};
+ghost use Rattle.records.specs.Grids.{setupAs};
+ghost use Rattle.records.specs.Verdicts.{verdictIn};
+ghost use Rattle.survey.specs.Survey.{Wiped, Surveyable, Chart, Surveyed};
 use crate::cells::lay_cells;
-use crate::covers::bad_entry;
-use crate::covers::index_codes;
-use crate::covers::size_fits;
-use crate::order::order;
-use records::Outcome;
+use crate::order::put_in_order;
+use crate::ways::CLOSED;
+use covers::CODES;
+use covers::read_covers;
+use records::Grid;
+use records::MOST_CELLS;
 use records::Place;
-use records::Setup;
-use records::count;
-use records::grid_fits;
-use records::season_fits;
+use records::Refusal;
+use records::Season;
+use records::Verdict;
 use records::setup_each;
 
 // Tests 3 to 6, for a grid within its limits and one entry a cell.
 fn chart(
-    setup: Setup,
+    grid: Grid,
+    season: Season,
     covers: &[u32],
     direction: &[u32],
     cover: &[u32],
     group: &[u32],
     water: &[u32],
-    slot: &mut [u32; 4096],
-    way: &mut [u32; 4096],
-    turn: &mut [u32; 4096],
-) -> Outcome
-    requires { ⌜ Surveyable (setupOf setup (now covers) (now direction) (now cover) (now group) (now water)) ⌝ }
-    ensures { λ r. ⌜ Chart (setupOf setup (now (covers .entry)) (now (direction .entry)) (now (cover .entry)) (now (group .entry)) (now (water .entry))) (now (slot .entry)) (now (way .entry)) r (now (slot .exit)) (now (way .exit)) (now (turn .exit)) ⌝ }
+    slots: &mut [u8; MOST_CELLS],
+    ways: &mut [u32; MOST_CELLS],
+    order: &mut [u32; MOST_CELLS],
+) -> Verdict
+    requires { ⌜ Surveyable (setupAs grid season (now covers) (now direction) (now cover) (now group) (now water)) ⌝ }
+    ensures { λ r. ⌜ Chart (setupAs grid season (now (covers .entry)) (now (direction .entry)) (now (cover .entry)) (now (group .entry)) (now (water .entry)))
+        (now (slots .entry)) (now (ways .entry)) r (now (slots .exit)) (now (ways .exit)) (now (order .exit)) ⌝ }
 {
-    if !size_fits(covers) {
-        return Outcome::CoverTable(0);
-    }
-    let entry = bad_entry(covers);
-    if let Place::At(e) = entry {
-        return Outcome::CoverTable(e);
-    }
-    let mut index = [0u32; 256];
-    index_codes(covers, &mut index);
+    let mut index = [0u8; CODES];
+    let table = read_covers(covers, &mut index);
+    let Verdict::Accepted = table else {
+        return table;
+    };
     let cell = lay_cells(
-        setup.width,
-        setup.height,
+        grid.width,
+        grid.height,
         &index,
         covers,
         direction,
         cover,
         group,
         water,
-        slot,
-        way,
-        turn,
+        slots,
+        ways,
+        order,
     );
     if let Place::At(i) = cell {
-        return Outcome::CellNumbers(i);
+        return Verdict::Refused(Refusal::CellNumbers(i));
     }
-    let ring = order(direction.len(), way, turn);
+    let ring = put_in_order(direction.len(), ways, order);
     if let Place::At(i) = ring {
-        return Outcome::RingAt(i);
+        return Verdict::Refused(Refusal::Ring(i));
     }
-    if !season_fits(setup) {
-        return Outcome::SeasonOutside;
+    if !season.fits() {
+        return Verdict::Refused(Refusal::Season);
     }
-    Outcome::Accepted
+    Verdict::Accepted
 }
 
 // Arrays that hold nothing, as a survey that refuses leaves them.
-pub fn clear(slot: &mut [u32; 4096], way: &mut [u32; 4096], turn: &mut [u32; 4096])
-    ensures { λ r. ⌜ Blank (now (slot .exit)) (now (way .exit)) (now (turn .exit)) ⌝ }
+fn wipe(slots: &mut [u8; MOST_CELLS], ways: &mut [u32; MOST_CELLS], order: &mut [u32; MOST_CELLS])
+    ensures { λ r. ⌜ Wiped (now (slots .exit)) (now (ways .exit)) (now (order .exit)) ⌝ }
 {
-    *slot = [0u32; 4096];
-    *way = [4097u32; 4096];
-    *turn = [0u32; 4096];
+    *slots = [0u8; MOST_CELLS];
+    *ways = [CLOSED; MOST_CELLS];
+    *order = [0u32; MOST_CELLS];
 }
 
-// Tests 1 to 6. The cells' slots, ways and turns are written over whatever the arrays held, and nothing reads past the cells. Where a test fails, the
+// Tests 1 to 6. The cells' slots, ways and order are written over whatever the arrays held, and nothing reads past the cells. Where a test fails, the
 // arrays are wiped.
 pub fn survey(
-    setup: Setup,
+    grid: Grid,
+    season: Season,
     covers: &[u32],
     direction: &[u32],
     cover: &[u32],
     group: &[u32],
     water: &[u32],
-    slot: &mut [u32; 4096],
-    way: &mut [u32; 4096],
-    turn: &mut [u32; 4096],
-) -> Outcome
-    ensures { λ r. ⌜ Surveyed (setupOf setup (now (covers .entry)) (now (direction .entry)) (now (cover .entry)) (now (group .entry)) (now (water .entry))) (now (slot .entry)) (now (way .entry)) r (now (slot .exit)) (now (way .exit)) (now (turn .exit)) ⌝ }
+    slots: &mut [u8; MOST_CELLS],
+    ways: &mut [u32; MOST_CELLS],
+    order: &mut [u32; MOST_CELLS],
+) -> Verdict
+    ensures { λ r. ⌜ Surveyed (setupAs grid season (now (covers .entry)) (now (direction .entry)) (now (cover .entry)) (now (group .entry)) (now (water .entry)))
+        (now (slots .entry)) (now (ways .entry)) r (now (slots .exit)) (now (ways .exit)) (now (order .exit)) ⌝ }
 {
-    if !grid_fits(setup) {
-        clear(slot, way, turn);
-        return Outcome::GridSize;
+    if !grid.fits() {
+        wipe(slots, ways, order);
+        return Verdict::Refused(Refusal::Grid);
     }
     if !setup_each(
-        count(setup),
+        grid.cells(),
         direction.len(),
         cover.len(),
         group.len(),
         water.len(),
     ) {
-        clear(slot, way, turn);
-        return Outcome::LentSize;
+        wipe(slots, ways, order);
+        return Verdict::Refused(Refusal::Lent);
     }
-    let outcome = chart(
-        setup,
+    let verdict = chart(
+        grid,
+        season,
         covers,
         direction,
         cover,
         group,
         water,
-        slot,
-        way,
-        turn,
+        slots,
+        ways,
+        order,
     );
-    let Outcome::Accepted = outcome else {
-        clear(slot, way, turn);
-        return outcome;
+    let Verdict::Accepted = verdict else {
+        wipe(slots, ways, order);
+        return verdict;
     };
-    outcome
+    verdict
+}
+
+// The setup check.
+pub fn check(
+    grid: Grid,
+    season: Season,
+    covers: &[u32],
+    direction: &[u32],
+    cover: &[u32],
+    group: &[u32],
+    water: &[u32],
+) -> Verdict
+    ensures { λ r. ⌜ r ≡ verdictIn (checkOf
+        (setupAs grid season (now (covers .entry)) (now (direction .entry)) (now (cover .entry)) (now (group .entry)) (now (water .entry)))) ⌝ }
+{
+    let mut slots = [0u8; MOST_CELLS];
+    let mut ways = [0u32; MOST_CELLS];
+    let mut order = [0u32; MOST_CELLS];
+    survey(
+        grid,
+        season,
+        covers,
+        direction,
+        cover,
+        group,
+        water,
+        &mut slots,
+        &mut ways,
+        &mut order,
+    )
 }

@@ -9,6 +9,7 @@ ghost use Rattle.theory.specs.Lowest.{lowest};
 ghost use Rattle.survey.specs.Routes.{nextIn, WaysIn, OrderOrRing};
 ghost use Rattle.records.specs.Places.{placeIn};
 ghost use Rattle.survey.specs.Peeling.{waits, waitFor, Counted, Blank, GatheredIn, PeeledIn};
+use records::MOST_CELLS;
 use records::Place;
 use records::place;
 
@@ -28,7 +29,7 @@ pub(crate) fn none_waiting(n: usize, order: &mut [u32])
 }
 
 // The cell to which the way leads, if it leads to one, is to wait for one more.
-pub(crate) fn wait_for(n: usize, way: u32, order: &mut [u32; 4096])
+pub(crate) fn wait_for(n: usize, way: u32, order: &mut [u32; MOST_CELLS])
     requires { ⌜ (n ≤ 4096) × (way < n → getD (now order) way 0 ≤ 33554432) ⌝ }
     ensures { λ r. ⌜ now (order .exit) ≡ waitFor n way (now (order .entry)) ⌝ }
 {
@@ -39,7 +40,7 @@ pub(crate) fn wait_for(n: usize, way: u32, order: &mut [u32; 4096])
 }
 
 // Puts the cells that wait for none into the queue, and says how many they are.
-fn sources(n: usize, order: &mut [u32; 4096]) -> usize
+fn sources(n: usize, order: &mut [u32; MOST_CELLS]) -> usize
     requires { ⌜ Blank n (now order) ⌝ }
     ensures { λ r. ⌜ GatheredIn n (waits (now (order .entry))) n r (now (order .exit)) ⌝ }
 {
@@ -58,7 +59,7 @@ fn sources(n: usize, order: &mut [u32; 4096]) -> usize
 // Takes the cells that wait for none, and says how many came by: from each source down, for as long as the next cell waits for no other. That
 // one joins the queue and is taken at once, out of a local: through the queue, each step would wait for the last one's stores. Its own way is
 // read before the stores: entry j of both arrays can have the same place in a page, and a read just after such a store waits for it.
-fn peel(n: usize, ways: &[u32; 4096], order: &mut [u32; 4096], sources: usize) -> usize
+fn peel(n: usize, ways: &[u32; MOST_CELLS], order: &mut [u32; MOST_CELLS], sources: usize) -> usize
     requires { ⌜ (WaysIn n (now ways)) × (PeeledIn n (nextIn n (now ways)) 0 sources sources (now order)) ⌝ }
     ensures { λ r. ⌜ PeeledIn n (nextIn n (now (ways .entry))) sources sources r (now (order .exit)) ⌝ }
 {
@@ -88,7 +89,7 @@ fn peel(n: usize, ways: &[u32; 4096], order: &mut [u32; 4096], sources: usize) -
 }
 
 // The lowest cell that waits for another.
-fn leftover(n: usize, order: &[u32; 4096]) -> Place
+fn leftover(n: usize, order: &[u32; MOST_CELLS]) -> Place
     requires { ⌜ n ≤ 4096 ⌝ }
     ensures { λ r. ⌜ r ≡ placeIn (lowest n (λ i. ltb 0 (waits (now (order .entry)) i))) ⌝ }
 {
@@ -103,7 +104,11 @@ fn leftover(n: usize, order: &[u32; 4096]) -> Place
 }
 
 // The array holds how many cells lead to each, and then the order.
-pub(crate) fn order(n: usize, ways: &[u32; 4096], order: &mut [u32; 4096]) -> Place
+pub(crate) fn put_in_order(
+    n: usize,
+    ways: &[u32; MOST_CELLS],
+    order: &mut [u32; MOST_CELLS],
+) -> Place
     requires { ⌜ (WaysIn n (now ways)) × (Counted n (nextIn n (now ways)) n (now order)) ⌝ }
     ensures { λ r. ⌜ OrderOrRing n (nextIn n (now (ways .entry))) r (now (order .exit)) ⌝ }
 {

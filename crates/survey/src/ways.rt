@@ -5,10 +5,12 @@ ghost use Rattle.paper.specs.Directions.{wayOf, stepped, cellAt};
 ghost use Rattle.paper.specs.Setup.{pointed};
 ghost use Rattle.survey.specs.Routes.{stepOf, wayIn, goesFrom};
 
-// Past every cell: over the edge, and a closed depression.
-const LEAVES: u32 = 4096;
+// Ways past every cell: over the edge, a closed depression, which keeps its water, and open water.
+pub const OVER_THE_EDGE: u32 = 4096;
 
-pub(crate) const STAYS: u32 = 4097;
+pub const CLOSED: u32 = 4097;
+
+pub const OPEN_WATER: u32 = 4098;
 
 // Both steps of a direction: 4 times the row's and the column's, each 0 for one less, 1 for the same and 2 for one more, so that no number is below 0.
 const UPPER_LEFT: u32 = 0;
@@ -28,7 +30,7 @@ const DOWN: u32 = 9;
 const LOWER_RIGHT: u32 = 10;
 
 // None of the eight.
-const CLOSED: u32 = 12;
+const NO_STEP: u32 = 12;
 
 // The cell after a step of the row and one of the column.
 fn toward(width: u32, height: u32, row: u32, column: u32, down: u32, right: u32) -> u32
@@ -38,16 +40,16 @@ fn toward(width: u32, height: u32, row: u32, column: u32, down: u32, right: u32)
     let y = row + down;
     let x = column + right;
     if y == 0 {
-        return LEAVES;
+        return OVER_THE_EDGE;
     }
     if height < y {
-        return LEAVES;
+        return OVER_THE_EDGE;
     }
     if x == 0 {
-        return LEAVES;
+        return OVER_THE_EDGE;
     }
     if width < x {
-        return LEAVES;
+        return OVER_THE_EDGE;
     }
     (y - 1) * width + (x - 1)
 }
@@ -65,7 +67,7 @@ fn steps(byte: u32) -> u32
         32 => UPPER_LEFT,
         64 => UP,
         128 => UPPER_RIGHT,
-        _ => CLOSED,
+        _ => NO_STEP,
     }
 }
 
@@ -74,8 +76,8 @@ pub(crate) fn way(width: u32, height: u32, row: u32, column: u32, byte: u32) -> 
     ensures { λ r. ⌜ r ≡ pointed (goesFrom width height row column (wayOf byte)) ⌝ }
 {
     let both = steps(byte);
-    if both == CLOSED {
-        return STAYS;
+    if both == NO_STEP {
+        return CLOSED;
     }
     toward(width, height, row, column, both / 4, both % 4)
 }

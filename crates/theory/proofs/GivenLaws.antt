@@ -22,3 +22,11 @@ unfolding given
 given-implied true true t h = h refl
 given-implied true false t h = absurd (true≢false (sym (t refl)))
 given-implied false b t h = zero-le
+
+pub given-true : (b : Bool) (x : ℕ) → b ≡ true → given b x ≡ x
+unfolding given
+given-true b x e = rw e
+
+pub given-false : (b : Bool) (x : ℕ) → b ≡ false → given b x ≡ 0
+unfolding given
+given-false b x e = rw e

@@ -5,9 +5,12 @@ use mathlib.Core.List.{List, [], _∷_, _++_, append-nil}
 use Prim.Native.Nat.{ℕ, zero, suc, _+_, _-_, _≤_, _<_, suc-le-suc}
 use native.Mathlib.Nat.{not-suc-le-zero, le-of-suc-le-suc, zero-lt-suc, add-sub-of-le, le-of-eq}
 use native.Mathlib.Omega.{arith}
-use lib.ListN.{length, getD, set, drop, length-append, length-drop, drop-of-length-le}
-use lib.Seq.{drop-cons, set-at, append-snoc, getD-append-add, getD-drop}
+use lib.ListN.{length, getD, set, drop, length-append, length-drop, length-set, drop-of-length-le, List·getD-append}
+use lib.Dec.{eqb}
+use lib.Seq.{drop-cons, set-at, append-snoc, getD-append-add, getD-drop, getD-set-same, getD-set-other, ext-getD}
+use borrow.Author.Tests.{eqb-true, eqb-false}
 use Rattle.theory.specs.Lists.{made, madeOver}
+use Rattle.theory.proofs.Cases.{byCases, below-or-not}
 
 module _ {A : Type 0} where
   pub made-length : (n : ℕ) (f : ℕ → A) → length (made n f) ≡ n
@@ -60,3 +63,40 @@ module _ {A : Type 0} where
   over-ahead n f l d i h =
       rw (← add-sub-of-le h) (ap (λ (k : ℕ). getD (made n f ++ drop n l) (k + (i - n)) d) (sym (made-length n f))
       ∙ getD-append-add (made n f) (drop n l) (i - n) d ∙ getD-drop n l (i - n) d)
+
+  -- what stands where the rule is written, and the next place to be written is inside
+  pub over-at : (n : ℕ) (f : ℕ → A) (l : List A) (d : A) (i : ℕ) → i < n → getD (madeOver n f l) i d ≡ f i
+  unfolding madeOver
+  over-at n f l d i h = List·getD-append (made n f) (drop n l) d i (rw made-length h) ∙ made-at n f d i h
+
+  pub over-room : (f : ℕ → A) (l before : List A) (i : ℕ) → l ≡ madeOver i f before → i < length before → i < length l
+  over-room f l before i e h = rw (e, over-length i f before (omega arith)) h
+
+  -- where the list beyond already is the rule's, all of it is
+  pub over-whole : (n k : ℕ) (f : ℕ → A) (l : List A) (d : A) → length l ≡ n → k ≤ n → ((i : ℕ) → k ≤ i → i < n → getD l i d ≡ f i)
+      → madeOver k f l ≡ made n f
+  over-whole n k f l d size h rest =
+      let whole : length (madeOver k f l) ≡ n = over-length k f l (omega arith) ∙ size in
+      ext-getD d (madeOver k f l) (made n f) (whole ∙ sym (made-length n f))
+      (λ i inside. let low : i < n = rw whole at inside in
+      (below-or-not i k (over-at k f l d i) (λ past. over-ahead k f l d i past ∙ rest i past low)) ∙ sym (made-at n f d i low))
+
+-- inside a list the default is of no account
+pub in-range : (l : List ℕ) (i d e : ℕ) → i < length l → getD l i d ≡ getD l i e
+in-range [] i d e h = absurd (not-suc-le-zero h)
+in-range (x ∷ l) zero d e h = refl
+in-range (x ∷ l) (suc i) d e h = in-range l i d e (le-of-suc-le-suc h)
+
+-- one store into a made list
+pub made-set : (n k : ℕ) (f g : ℕ → ℕ) (x : ℕ) → g k ≡ x → ((i : ℕ) → (i ≡ k → ⊥) → f i ≡ g i) → set (made n f) k x ≡ made n g
+made-set n k f g x here other =
+    let size : length (set (made n f) k x) ≡ n = length-set (made n f) k x ∙ made-length n f in
+    ext-getD 0 (set (made n f) k x) (made n g) (size ∙ sym (made-length n g))
+    (λ i inside. let low : i < n = rw size at inside in go i low)
+  where
+    go : (i : ℕ) → i < n → getD (set (made n f) k x) i 0 ≡ getD (made n g) i 0
+    go i low =
+        byCases (eqb i k)
+        (λ e. let same : i ≡ k = eqb-true i k e in
+        rw (same) (getD-set-same (made n f) k x 0 (rw (made-length n f) (rw same at low)) ∙ sym here ∙ sym (made-at n g 0 k (rw same at low))))
+        (λ e. getD-set-other (made n f) k i x 0 (eqb-false i k e) ∙ made-at n f 0 i low ∙ other i (eqb-false i k e) ∙ sym (made-at n g 0 i low))

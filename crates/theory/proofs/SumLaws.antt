@@ -129,3 +129,11 @@ sum-cover m n o f covered =
   where
     reached : (i : ℕ) → (t : ℕ) × (t < m) × (o t ≡ i) → f i ≤ sum m (λ t. given (eqb (o t) i) (f i))
     reached i c = rw (eq-eqb (o c.0) i c.2) at (sum-part m (λ t. given (eqb (o t) i) (f i)) c.0 c.1)
+
+pub one-more : (m : ℕ) (f : ℕ → ℕ) → sum (suc m) f ≡ sum m f + f m
+unfolding sum
+one-more m f = refl
+
+pub no-places : (f : ℕ → ℕ) → sum 0 f ≡ 0
+unfolding sum
+no-places f = refl

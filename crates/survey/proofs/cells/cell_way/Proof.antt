@@ -1,6 +1,6 @@
--- `cells::cell_way` meets its contract: open water stays, and any other cell goes by its byte.
+-- `cells::cell_way` meets its contract: open water has its own number, and any other cell goes by its byte.
 use borrow.Author.Tests.{eq-eqb, ne-eqb}
-use Rattle.survey.specs.Slots.{wayFrom}
+use Rattle.survey.specs.Cells.{wayFrom}
 use borrow.Author.Needs.{needs}
 use Rattle.survey.proofs.cells.cell_way.Statement.{statement}
 use Rattle.survey.proofs.cells.cell_way.Tie as tie

@@ -7,16 +7,14 @@ use native.Mathlib.Omega.{arith}
 use lib.ListN.{length, getD}
 use borrow.Author.Needs.{needs}
 use borrow.Author.Tests.{eq-eqb}
-use Rattle.theory.proofs.ListLaws.{over-length}
+use Rattle.theory.proofs.ListLaws.{over-length, over-room}
 use Rattle.paper.specs.Covers.{entries, openOf}
 use Rattle.survey.specs.Peeling.{waitFor}
-use Rattle.survey.specs.Slots.{slotAt, wayFrom}
-use Rattle.survey.proofs.PlaceLaws.{found-place, no-place}
-use Rattle.survey.proofs.QueueLaws.{count-none, count-fits}
-use Rattle.survey.proofs.SlotLaws.{slot-below}
-use Rattle.survey.proofs.SlotNumbers.{whole-entry}
-use Rattle.survey.proofs.WayArrays.{over-room}
-use Rattle.survey.proofs.WayLaying.{Laid, laid-bad, laid-none, laid-row, laid-down, laid-right}
+use Rattle.survey.specs.Cells.{slotAt, wayFrom}
+use Rattle.records.proofs.PlaceLaws.{found-place, no-place}
+use Rattle.survey.proofs.CountLaws.{count-none, count-fits}
+use Rattle.survey.proofs.SlotLaws.{slot-below, whole-entry}
+use Rattle.survey.proofs.LayingLaws.{Laid, laid-bad, laid-none, laid-row, laid-down, laid-right}
 use Rattle.survey.proofs.cells.lay_cells.Statement.{statement}
 use Rattle.survey.proofs.cells.lay_cells.Tie as tie
 
@@ -36,7 +34,7 @@ abbrev head : tie.After-slot Inv-loop μ-loop → tie.At-loop Inv-loop μ-loop
 head c = c .before .before .before .before .before
 
 abbrev fitted : tie.After-cell-way Inv-loop μ-loop → tie.Else1 Inv-loop μ-loop
-fitted c = c .before .before .before .before
+fitted c = c .before .before .before
 
 none-waiting-requires : tie.Need-none-waiting-requires Inv-loop μ-loop
 none-waiting-requires c κs = let p = c .before .before .before .before .before .before .before .before .pre in rw (p .coded, c .none-waiting-arg .given .0 .1) (p .few)
@@ -85,10 +83,10 @@ same-length-2 c =
 returns : tie.Need-returns Inv-loop μ-loop
 returns c =
     laid-bad _ _ _ _ _ _ _ _ _
-    (found-place _ _ _ (head (c .before) .loop .inv .1 .passed) (omega arith) (eq-eqb _ _ (sym (c .before .slot .ensures) ∙ c .if1 .taken)))
+    (found-place _ _ _ (head (c .before) .loop .inv .1 .passed) (omega arith) (eq-eqb _ _ (sym (c .before .slot .ensures .0) ∙ c .if1 .taken)))
 
-mul-slots : tie.Need-mul-slots Inv-loop μ-loop
-mul-slots c = search needs
+cast-slots : tie.Need-cast-slots Inv-loop μ-loop
+cast-slots c = omega (arith, c .before .slot .ensures .1, c .if1 .left)
 
 slice-write-slots : tie.Need-slice-write-slots Inv-loop μ-loop
 slice-write-slots c =
@@ -96,37 +94,34 @@ slice-write-slots c =
     let p = start h .pre in
     over-room _ _ _ _ (h .loop .inv .1 .slotted) (omega arith)
 
-place-requires : tie.Need-place-requires Inv-loop μ-loop
-place-requires c κs = search needs
-
 -- the entry of the slot that was found stands in the table
 whole : (c : tie.Else1 Inv-loop μ-loop) → 16 * (c .before .slot .result / 4) + 16 ≤ length (start (head (c .before)) .args .covers .now)
 whole c =
     let s = start (head (c .before)) in
     whole-entry (s .args .covers .now) (c .before .slot .result)
-    (slot-below _ _ _ _ _ (entries (s .args .covers .now)) (c .before .slot .ensures) (c .if1 .left) (s .pre .entered _))
+    (slot-below _ _ _ _ _ (entries (s .args .covers .now)) (c .before .slot .ensures .0) (c .if1 .left) (s .pre .entered _))
 
 mul-lake : tie.Need-mul-lake Inv-loop μ-loop
-mul-lake c = omega (arith, c .place .ensures, whole (c .before))
+mul-lake c = omega (arith, whole c)
 
 add-lake : tie.Need-add-lake Inv-loop μ-loop
-add-lake c = omega (arith, c .place .ensures, whole (c .before))
+add-lake c = omega (arith, whole c)
 
 mul-lake-2 : tie.Need-mul-lake-2 Inv-loop μ-loop
-mul-lake-2 c = omega (arith, c .place .ensures, whole (c .before))
+mul-lake-2 c = omega (arith, whole c)
 
 shared-slice-read-lake : tie.Need-shared-slice-read-lake Inv-loop μ-loop
-shared-slice-read-lake c = omega (arith, c .before .place .ensures, whole (c .before .before))
+shared-slice-read-lake c = omega (arith, whole (c .before))
 
 mul-cell-way : tie.Need-mul-cell-way Inv-loop μ-loop
 mul-cell-way c = search needs
 
 shared-slice-read-cell-way : tie.Need-shared-slice-read-cell-way Inv-loop μ-loop
-shared-slice-read-cell-way c = let p = start (head (c .before .before .before .before)) .pre in omega arith
+shared-slice-read-cell-way c = let p = start (head (c .before .before .before)) .pre in omega arith
 
 cell-way-requires : tie.Need-cell-way-requires Inv-loop μ-loop
 cell-way-requires c κs =
-    let h = head (c .before .before .before .before) in
+    let h = head (c .before .before .before) in
     let l = h .loop in
     (laid-row _ _ _ _ _ _ _ (l .slots) (l .ways) (l .order) (l .row) (l .column) (l .i) (l .inv .1) (omega arith), l .inv .1 .inside, start h .pre .few)
 
@@ -176,10 +171,7 @@ module _ (c : tie.Joined2 Inv-loop μ-loop) where
   way-read : laid-way .cell-way .result
       ≡ wayFrom (s .args .width) (s .args .height) (h .loop .row) (h .loop .column)
       (openOf (s .args .covers .now) (has-slot .slot .result / 4)) (getD (s .args .direction .now) (h .loop .i) 0)
-  way-read =
-      laid-way .cell-way .ensures
-      ∙ ap (λ (k : ℕ). wayFrom (s .args .width) (s .args .height) (h .loop .row) (h .loop .column)
-      (openOf (s .args .covers .now) (k / 4)) (getD (s .args .direction .now) (h .loop .i) 0)) (laid-way .before .before .before .place .ensures)
+  way-read = laid-way .cell-way .ensures
 
 loop-again : tie.Need-loop-again Inv-loop μ-loop
 loop-again c =
@@ -188,10 +180,10 @@ loop-again c =
       p .coded,
       ⊎-elim
           (λ w. laid-down _ _ _ _ _ _ _ (l .slots) (l .ways) (l .order) (l .row) (l .column) (l .i) (l .inv .1) (omega arith) _ _
-          (p .slots-sized) (p .ways-sized) (p .few) (has-slot c .slot .ensures) (fitted (laid-way c) .if1 .left) (way-read c) _
+          (p .slots-sized) (p .ways-sized) (p .few) (has-slot c .slot .ensures .0) (fitted (laid-way c) .if1 .left) (way-read c) _
           (c .before .wait-for .ensures ∙ ap (λ (n : ℕ). waitFor n (laid-way c .cell-way .result) (l .order)) (p .coded)) _ _ (w .0 .taken) (w .1) (w .2))
           (λ w. laid-right _ _ _ _ _ _ _ (l .slots) (l .ways) (l .order) (l .row) (l .column) (l .i) (l .inv .1) (omega arith) _ _
-          (p .slots-sized) (p .ways-sized) (p .few) (has-slot c .slot .ensures) (fitted (laid-way c) .if1 .left) (way-read c) _
+          (p .slots-sized) (p .ways-sized) (p .few) (has-slot c .slot .ensures .0) (fitted (laid-way c) .if1 .left) (way-read c) _
           (c .before .wait-for .ensures ∙ ap (λ (n : ℕ). waitFor n (laid-way c .cell-way .result) (l .order)) (p .coded)) _ _ (w .0 .left) (w .1) (w .2))
           (c .if2 .came),
     )
@@ -236,9 +228,8 @@ lay-cells-spec =
     same-length
     same-length-2
     returns
-    mul-slots
+    cast-slots
     slice-write-slots
-    place-requires
     mul-lake
     add-lake
     mul-lake-2

@@ -1,69 +1,43 @@
 -- `cells::slot` meets its contract: each way out is a case of the paper's test 4.
+use mathlib.Core.Path.{_≡_, sym, _∙_}
 use native.Mathlib.Omega.{arith}
-use borrow.Author.Tests.{le-leb, lt-leb}
-use Rattle.survey.proofs.SlotLaws.{slot-none, slot-past, slot-bad, slot-good}
+use lib.ListN.{getD}
 use borrow.Author.Needs.{needs}
+use borrow.Author.Tests.{not-true, not-false}
+use Rattle.survey.proofs.SlotLaws.{group-in, slot-none, slot-past, slot-bad, slot-good}
 use Rattle.survey.proofs.cells.slot.Statement.{statement}
 use Rattle.survey.proofs.cells.slot.Tie as tie
 
 returns : tie.Need-returns
-returns c = slot-past _ _ _ _ (c .before .pre) (c .if1 .taken)
+returns c = (slot-past _ _ _ _ (c .before .before .pre) (rw (c .before .place .ensures) at (c .if1 .taken)), search needs)
 
-place-requires : tie.Need-place-requires
-place-requires c κs = search needs
-
-mul-entry : tie.Need-mul-entry
-mul-entry c = search needs
-
-element-copy-out-entry : tie.Need-element-copy-out-entry
-element-copy-out-entry c = search needs
+-- the entry of the index at the cell's code
+entry-is : (c : tie.After-small-place)
+    → c .small-place .result ≡ getD (c .before .before .before .before .args .index .now) (c .before .before .before .before .args .code) 0
+entry-is c = rw (c .before .before .before .place .ensures) at (c .small-place .ensures .0)
 
 returns-2 : tie.Need-returns-2
-returns-2 c = slot-none _ _ _ _ (rw (c .before .before .place .ensures) at (c .if2 .taken))
+returns-2 c = (slot-none _ _ _ _ (sym (entry-is (c .before)) ∙ c .if2 .taken), search needs)
 
 returns-3 : tie.Need-returns-3
-returns-3 c = let low = c .if3 .taken in slot-bad _ _ _ _ (simp (lt-leb))
+returns-3 c = (slot-bad _ _ _ _ (not-true _ (c .if3 .taken)), search needs)
+
+sub-result-2 : tie.Need-sub-result-2
+sub-result-2 c =
+    let a = c .before .before .before .before .before .before .before .args in
+    omega (arith, c .place2 .ensures, group-in (a .group) (a .water) (not-false _ (c .before .if3 .left)))
 
 returns-4 : tie.Need-returns-4
-returns-4 c = let low = c .before .if3 .left in let high = c .if4 .taken in slot-bad _ _ _ _ (simp (le-leb, lt-leb))
-
-returns-5 : tie.Need-returns-5
-returns-5 c =
-    let low = c .before .before .if3 .left in
-    let high = c .before .if4 .left in
-    let much = c .if5 .taken in
-    slot-bad _ _ _ _ (simp (le-leb, lt-leb))
-
-sub-result : tie.Need-sub-result
-sub-result c = search needs
-
-mul-result : tie.Need-mul-result
-mul-result c = omega (arith, c .before .before .before .before .before .before .before .pre .few (c .before .before .before .before .before .place .result))
-
-add-result : tie.Need-add-result
-add-result c = omega (arith, c .before .before .before .before .before .before .before .pre .few (c .before .before .before .before .before .place .result))
-
-returns-6 : tie.Need-returns-6
-returns-6 c =
-    let low = c .before .before .if3 .left in
-    let high = c .before .if4 .left in
-    let little = c .if5 .left in
-    rw (c .before .before .before .before .before .place .ensures)
-    (slot-good _ _ _ _ (rw (c .before .before .before .before .before .place .ensures) at (c .before .before .before .if2 .left)) (simp (le-leb)))
+returns-4 c =
+    let fits = not-false _ (c .before .if3 .left) in
+    let entry = entry-is (c .before .before .before) in
+    let start = c .before .before .before .before .before .before .before in (
+      rw (entry, c .place2 .ensures) (slot-good _ _ _ _ (λ e. c .before .before .if2 .left (entry ∙ e)) fits),
+      omega (arith, entry, c .place2 .ensures, group-in (start .args .group) (start .args .water) fits, start .pre .few (start .args .code)),
+    )
 
 pub slot-spec : {M : Type 1} → statement M
 slot-spec =
     tie.close
-    (tie.spec
-    returns
-    place-requires
-    mul-entry
-    element-copy-out-entry
-    returns-2
-    returns-3
-    returns-4
-    returns-5
-    sub-result
-    mul-result
-    add-result
-    returns-6)
+    (tie.spec (λ c κs. search needs) returns (λ c. search needs) (λ c κs. search needs) returns-2 returns-3 (λ c. search needs) (λ c. search needs)
+    (λ c κs. search needs) sub-result-2 (λ c. search needs) returns-4)

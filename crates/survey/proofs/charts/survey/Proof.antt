@@ -1,127 +1,84 @@
 -- `charts::survey` meets its contract: each way out is the verdict of the tests up to there, and a refused one wipes the arrays.
+use mathlib.Core.Bool.{true}
 use mathlib.Core.List.{[], _∷_}
 use mathlib.Core.Path.{_≡_, sym, ap, _∙_, refl}
-use mathlib.Core.Bool.{true}
 use Prim.Native.Nat.{ℕ}
+use borrow.Author.Needs.{needs}
 use borrow.Author.Tests.{not-true, not-false}
 use types.Run.{miss}
-use Rattle.paper.specs.Setup.{cells, gridFits}
+use Rattle.paper.specs.Setup.{Setup, cells, gridFits}
 use Rattle.paper.specs.Refusals.{grid, lent, oneEach, setupLengths}
 use Rattle.paper.specs.Day.{checkOf}
-use Rattle.records.specs.Calls.{setupOf}
+use Rattle.records.specs.Grids.{setupAs}
 use Rattle.survey.proofs.CallLaws.{grid-bad, lent-bad, surveyable, refuse-survey, chart-refuses, chart-passes}
-use borrow.Author.Needs.{needs}
 use Rattle.survey.proofs.charts.survey.Statement.{statement}
 use Rattle.survey.proofs.charts.survey.Tie as tie
 
-grid-fits-requires : tie.Need-grid-fits-requires
-grid-fits-requires c κs = search needs
-
-clear-requires : tie.Need-clear-requires
-clear-requires c κs = search needs
+abbrev setup : tie.Start → Setup
+setup s =
+    setupAs (s .args .grid) (s .args .season) (s .args .covers .now) (s .args .direction .now) (s .args .cover .now) (s .args .group .now)
+    (s .args .water .now)
 
 returns : tie.Need-returns
-unfolding checkOf gridFits cells
+unfolding checkOf
 returns c =
-    let at-if1 = c .before .before .before .before in
-    let at-grid-fits = at-if1 .before in
-    let a = at-grid-fits .before .before .before .before .before .before .args in
-    let s = setupOf (a .setup) (a .covers .now) (a .direction .now) (a .cover .now) (a .group .now) (a .water .now) in
-    refuse-survey s _ _ _ grid _ _ _ (grid-bad s (setupLengths s) (sym (at-grid-fits .grid-fits .ensures) ∙ not-true _ (at-if1 .if1 .taken))) refl
-    (c .clear .ensures)
+    let refused = c .before .before .before .before in
+    let s = setup (refused .before .before .before .before .before .before .before) in
+    refuse-survey s _ _ _ grid _ _ _ (grid-bad s (setupLengths s) (sym (refused .before .fits2 .ensures) ∙ not-true _ (refused .if1 .taken))) refl
+    (c .wipe .ensures)
 
-count-requires : tie.Need-count-requires
-count-requires c κs = search needs
+-- the grid fits
+module _ (c : tie.Else1) where
+  abbrev entry : tie.Start
+  entry = c .before .before .before .before .before .before .before
 
-setup-each-requires : tie.Need-setup-each-requires
-setup-each-requires c κs = search needs
+  fits : gridFits (setup entry .grid) ≡ true
+  fits = sym (c .before .fits2 .ensures) ∙ not-false _ (c .if1 .left)
 
 returns-2 : tie.Need-returns-2
-unfolding checkOf gridFits cells setupLengths
+unfolding checkOf setupLengths
 returns-2 c =
-    let at-if2 = c .before .before .before .before in
-    let at-setup-each = at-if2 .before in
-    let at-count = at-setup-each .before in
-    let at-if1 = at-count .before in
-    let at-grid-fits = at-if1 .before in
-    let a = at-grid-fits .before .before .before .before .before .before .args in
-    let s = setupOf (a .setup) (a .covers .now) (a .direction .now) (a .cover .now) (a .group .now) (a .water .now) in
+    let refused = c .before .before .before .before in
+    let counted = refused .before .before in
+    let s = setup (entry (counted .before)) in
     refuse-survey s _ _ _ lent _ _ _
-    (lent-bad s (setupLengths s) (sym (at-grid-fits .grid-fits .ensures) ∙ not-false _ (at-if1 .if1 .left))
-    (ap (λ (n : ℕ). oneEach n (setupLengths s)) (sym (at-count .count .ensures)) ∙ sym (at-setup-each .setup-each .ensures) ∙ not-true _ (at-if2 .if2 .taken))) refl
-    (c .clear2 .ensures)
+    (lent-bad s (setupLengths s) (fits (counted .before))
+    (ap (λ (n : ℕ). oneEach n (setupLengths s)) (sym (counted .cells .ensures)) ∙ sym (refused .before .setup-each .ensures)
+    ∙ not-true _ (refused .if2 .taken))) refl (c .wipe2 .ensures)
 
-clear-requires-2 : tie.Need-clear-requires-2
-clear-requires-2 c κs = search needs
+-- and each slice has one entry a cell
+module _ (c : tie.Else2) where
+  abbrev tested : tie.Else1
+  tested = c .before .before .before
+
+  each : oneEach (cells (setup (entry tested))) (setupLengths (setup (entry tested))) ≡ true
+  unfolding setupLengths
+  each =
+      ap (λ (n : ℕ). oneEach n (setupLengths (setup (entry tested)))) (sym (c .before .before .cells .ensures)) ∙ sym (c .before .setup-each .ensures)
+      ∙ not-false _ (c .if2 .left)
 
 chart-requires : tie.Need-chart-requires
-unfolding gridFits cells setupLengths
 chart-requires c κs =
-    let at-if2 = c .before .before .before in
-    let at-setup-each = at-if2 .before in
-    let at-count = at-setup-each .before in
-    let at-if1 = at-count .before in
-    let at-grid-fits = at-if1 .before in
-    let a = at-grid-fits .before .before .before .before .before .before .args in
-    let s = setupOf (a .setup) (a .covers .now) (a .direction .now) (a .cover .now) (a .group .now) (a .water .now) in
-    let fits : gridFits s ≡ true = sym (at-grid-fits .grid-fits .ensures) ∙ not-false _ (at-if1 .if1 .left) in
-    let each : oneEach (cells s) (setupLengths s) ≡ true
-    = ap (λ (n : ℕ). oneEach n (setupLengths s)) (sym (at-count .count .ensures)) ∙ sym (at-setup-each .setup-each .ensures) ∙ not-false _ (at-if2 .if2 .left) in
-    surveyable s fits each
-
-enum-told : tie.Need-enum-told
-enum-told c = search needs
-
-clear-requires-3 : tie.Need-clear-requires-3
-clear-requires-3 c κs = search needs
+    let e = c .before .before .before in
+    surveyable (setup (entry (tested e))) (fits (tested e)) (each e)
 
 returns-3 : tie.Need-returns-3
-unfolding gridFits cells setupLengths
 returns-3 c =
-    let at-match = c .before .before .before .before in
-    let at-chart = at-match .before in
-    let at-if2 = at-chart .before .before .before .before in
-    let at-setup-each = at-if2 .before in
-    let at-count = at-setup-each .before in
-    let at-if1 = at-count .before in
-    let at-grid-fits = at-if1 .before in
-    let a = at-grid-fits .before .before .before .before .before .before .args in
-    let s = setupOf (a .setup) (a .covers .now) (a .direction .now) (a .cover .now) (a .group .now) (a .water .now) in
-    let fits : gridFits s ≡ true = sym (at-grid-fits .grid-fits .ensures) ∙ not-false _ (at-if1 .if1 .left) in
-    let each : oneEach (cells s) (setupLengths s) ≡ true
-    = ap (λ (n : ℕ). oneEach n (setupLengths s)) (sym (at-count .count .ensures)) ∙ sym (at-setup-each .setup-each .ensures) ∙ not-false _ (at-if2 .if2 .left) in
-    chart-refuses s fits each _ _ _ _ _ _ (at-chart .chart .ensures .outcome)
-    (λ e. miss (1 ∷ 2 ∷ 3 ∷ 4 ∷ 5 ∷ 6 ∷ 7 ∷ 8 ∷ 9 ∷ 10 ∷ []) 0 tt (rw e at (at-match .match .keys2))) (c .clear3 .ensures)
+    let match = c .before .before .before .before .before in
+    let charted = match .before in
+    let e = charted .before .before .before .before in
+    chart-refuses (setup (entry (tested e))) (fits (tested e)) (each e) _ _ _ _ _ _ (charted .chart .ensures .verdict-is)
+    (λ q. miss (1 ∷ []) 0 tt (rw q at (match .match .keys2))) (c .wipe3 .ensures)
 
 returns-4 : tie.Need-returns-4
-unfolding gridFits cells setupLengths
 returns-4 c =
-    let at-chart = c .before .before in
-    let at-if2 = at-chart .before .before .before .before in
-    let at-setup-each = at-if2 .before in
-    let at-count = at-setup-each .before in
-    let at-if1 = at-count .before in
-    let at-grid-fits = at-if1 .before in
-    let a = at-grid-fits .before .before .before .before .before .before .args in
-    let s = setupOf (a .setup) (a .covers .now) (a .direction .now) (a .cover .now) (a .group .now) (a .water .now) in
-    let fits : gridFits s ≡ true = sym (at-grid-fits .grid-fits .ensures) ∙ not-false _ (at-if1 .if1 .left) in
-    let each : oneEach (cells s) (setupLengths s) ≡ true
-    = ap (λ (n : ℕ). oneEach n (setupLengths s)) (sym (at-count .count .ensures)) ∙ sym (at-setup-each .setup-each .ensures) ∙ not-false _ (at-if2 .if2 .left) in
-    rw (c .enum-told .given .1) (chart-passes s fits each _ _ _ _ _ (rw (c .enum-told .given .1) at (at-chart .chart .ensures)))
+    let charted = c .before .before in
+    let e = charted .before .before .before .before in
+    rw (c .enum-told .given .1)
+    (chart-passes (setup (entry (tested e))) (fits (tested e)) (each e) _ _ _ _ _ (rw (c .enum-told .given .1) at (charted .chart .ensures)))
 
 pub survey-spec : {M : Type 1} → statement M
 survey-spec =
     tie.close
-    (tie.spec
-    grid-fits-requires
-    clear-requires
-    returns
-    count-requires
-    setup-each-requires
-    clear-requires-2
-    returns-2
-    chart-requires
-    enum-told
-    clear-requires-3
-    returns-3
-    returns-4)
+    (tie.spec (λ c κs. search needs) (λ c κs. search needs) returns (λ c κs. search needs) (λ c κs. search needs) (λ c κs. search needs) returns-2
+    chart-requires (λ c. search needs) (λ c. search needs) (λ c κs. search needs) returns-3 returns-4)

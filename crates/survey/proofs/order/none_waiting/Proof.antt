@@ -6,8 +6,7 @@ use native.Mathlib.Omega.{arith}
 use lib.ListN.{length}
 use borrow.Author.Needs.{needs}
 use Rattle.theory.specs.Lists.{madeOver}
-use Rattle.theory.proofs.ListLaws.{over-none, over-more, over-length}
-use Rattle.survey.proofs.WayArrays.{over-room}
+use Rattle.theory.proofs.ListLaws.{over-none, over-more, over-length, over-room}
 use Rattle.survey.proofs.order.none_waiting.Statement.{statement}
 use Rattle.survey.proofs.order.none_waiting.Tie as tie
 

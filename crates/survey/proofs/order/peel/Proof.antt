@@ -12,7 +12,8 @@ use borrow.Author.Needs.{needs}
 use lib.ListN.{getD, set}
 use Rattle.survey.specs.Routes.{nextIn}
 use Rattle.survey.specs.Peeling.{queued, PeeledIn}
-use Rattle.survey.proofs.QueueLaws.{InHand, way-next, hand-source, hand-outside, hand-waiting, hand-room, hand-fits, hand-still, hand-joins}
+use Rattle.survey.proofs.CountLaws.{way-next}
+use Rattle.survey.proofs.PeelLaws.{InHand, hand-source, hand-outside, hand-waiting, hand-room, hand-fits, hand-still, hand-joins}
 use Rattle.survey.proofs.order.peel.Tie as tie
 
 abbrev Inv-loop2 : tie.InvT-loop2

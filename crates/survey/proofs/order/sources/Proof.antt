@@ -7,7 +7,7 @@ use Prim.Native.Nat.{_≤_, _-_}
 use native.Mathlib.Omega.{arith}
 use borrow.Author.Needs.{needs}
 use Rattle.survey.specs.Peeling.{waits, GatheredIn}
-use Rattle.survey.proofs.QueueLaws.{gather-none, gather-fits, gather-skip, gather-put}
+use Rattle.survey.proofs.GatherLaws.{gather-none, gather-fits, gather-skip, gather-put}
 use Rattle.survey.proofs.order.sources.Tie as tie
 
 abbrev Inv-loop : tie.InvT-loop

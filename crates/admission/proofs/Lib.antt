@@ -1,3 +1,0 @@
-pub mod DayTestLaws
-pub mod StoreLaws
-pub mod TestLaws

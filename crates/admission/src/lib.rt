@@ -1,6 +1,0 @@
-// Whether a day may run: its ten tests, which leave the survey of its setup where they all pass.
-mod stores;
-mod tests;
-
-pub use tests::Lengths;
-pub use tests::admit;

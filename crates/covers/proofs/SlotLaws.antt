@@ -1,0 +1,99 @@
+-- What a slot of a table that fits finds there: a whole entry of the table, with its numbers within the paper's limits. The entry's test has
+-- the tests of all four groups, and the slot's group is one of them. And by the array of root depths a cell's soil holds its available water
+-- times its slot's number, whatever the table.
+use mathlib.Core.Path.{_≡_, refl, sym, ap, _∙_}
+use mathlib.Core.Bool.{Bool, true, cond}
+use mathlib.Core.List.{List}
+use Prim.Native.Nat.{ℕ, zero, suc, _+_, _*_, _/_, _%_, _≤_, _<_, min, zero-le}
+use native.Mathlib.Nat.{mul-zero, mul-le-mul}
+use native.Mathlib.Omega.{arith}
+use lib.ListN.{length, getD, replicate, length-replicate, getD-replicate, List·getD-eq-default}
+use borrow.Author.Tests.{leb-true}
+use Rattle.theory.specs.Lists.{made, madeOver}
+use Rattle.theory.proofs.Cases.{and-left, and-right}
+use Rattle.theory.proofs.ListLaws.{made-at, over-whole}
+use Rattle.paper.specs.Covers.{numberOf, curveNumberOf, rootDepthOf, entries, groupFits, entryFits}
+use Rattle.paper.specs.CurveNumber.{Condition, curveNumber}
+use Rattle.paper.specs.State.{mostSoilOf}
+use Rattle.paper.proofs.CurveNumberLaws.{UpTo100, curve-number-limits}
+use Rattle.covers.specs.Table.{EntriesFit}
+use Rattle.covers.specs.Slots.{openAt, groupNumberAt, cellFrom, mostCapacity}
+
+-- past the table's numbers there is nothing
+pub past-table : (covers : List ℕ) (slot k : ℕ) → length covers / 16 < slot / 4 → 0 ≡ numberOf covers (slot / 4) k
+past-table covers slot k h = sym (List·getD-eq-default covers 0 {n = 16 * (slot / 4) + k} (omega arith))
+
+pub past-numbers : (covers : List ℕ) (at : ℕ) → length covers ≤ at → 0 ≡ getD covers at 0
+past-numbers covers at h = sym (List·getD-eq-default covers 0 {n = at} h)
+
+nothing : (b : Bool) → cond {A = ℕ} b 0 0 ≡ 0
+nothing true = refl
+nothing Bool.false = refl
+
+pub past-slots : (covers : List ℕ) (base slot : ℕ) → length covers ≤ 16 * (slot / 4) → groupNumberAt covers base slot ≡ 0
+unfolding groupNumberAt
+past-slots covers base slot h =
+    rw (← past-numbers covers (16 * (slot / 4) + (base + (slot % 4 + 1))) (omega arith)) (nothing (openAt covers slot))
+
+times-given : (b : Bool) (x d : ℕ) → x * cond b 0 d ≡ cond b 0 (x * d)
+times-given true x d = mul-zero x
+times-given Bool.false x d = refl
+
+given-most : (b : Bool) (d most : ℕ) → d ≤ most → cond b 0 d ≤ most
+given-most true d most h = zero-le
+given-most Bool.false d most h = h
+
+-- a cell's most soil, by the root depth of its slot
+pub soil-most : (covers : List ℕ) (slot water way : ℕ) → water * groupNumberAt covers 11 slot ≡ mostSoilOf (cellFrom covers slot water way)
+unfolding groupNumberAt mostSoilOf cellFrom
+soil-most covers slot water way = times-given (openAt covers slot) water _
+
+pub root-at : (covers roots : List ℕ) (slot : ℕ) → roots ≡ made 256 (groupNumberAt covers 11) → slot < 256
+    → getD roots slot 0 ≡ groupNumberAt covers 11 slot
+root-at covers roots slot e h = rw e (made-at 256 (groupNumberAt covers 11) 0 slot h)
+
+-- the slots below those of which the table has a number, written over zeros, are all
+pub roots-whole : (covers : List ℕ) (slots : ℕ) → slots ≤ 256 → slots % 4 ≡ 0 → min (length covers) 1024 ≤ 4 * slots
+    → madeOver slots (groupNumberAt covers 11) (replicate 256 0) ≡ made 256 (groupNumberAt covers 11)
+roots-whole covers slots few whole covered =
+    over-whole 256 slots (groupNumberAt covers 11) (replicate 256 0) 0 (length-replicate {A = ℕ} 256 0) few
+    (λ i past low. getD-replicate {A = ℕ} 256 i 0 0 low ∙ sym (past-slots covers 11 i (omega arith)))
+
+-- a group of four, counted from 0
+four : (P : ℕ → Type 0) → P 0 → P 1 → P 2 → P 3 → (k : ℕ) → k < 4 → P k
+four P a b c d zero h = a
+four P a b c d (suc zero) h = b
+four P a b c d (suc (suc zero)) h = c
+four P a b c d (suc (suc (suc zero))) h = d
+four P a b c d (suc (suc (suc (suc k)))) h = absurd (omega arith)
+
+module _ (covers : List ℕ) (fit : EntriesFit covers) (slot : ℕ) (h : slot < 4 * entries covers) where
+  group : groupFits covers (slot / 4) (slot % 4 + 1) ≡ true
+  unfolding entryFits
+  group =
+      let fits : entryFits covers (slot / 4) ≡ true = fit .fit (slot / 4) (omega arith) in
+      four (λ k. groupFits covers (slot / 4) (k + 1) ≡ true) (search (and-left, and-right) depth 9) (search (and-left, and-right) depth 9)
+      (search (and-left, and-right) depth 9) (search (and-left, and-right) depth 9) (slot % 4) (omega arith)
+
+  pub root-depth-limit : rootDepthOf covers (slot / 4) (slot % 4 + 1) ≤ 1000
+  unfolding groupFits
+  root-depth-limit = let fits : groupFits covers (slot / 4) (slot % 4 + 1) ≡ true = group in leb-true _ _ (search (and-left, and-right) depth 6)
+
+  pub root-most : groupNumberAt covers 11 slot ≤ 1000
+  unfolding groupNumberAt
+  root-most = given-most (openAt covers slot) _ 1000 root-depth-limit
+
+  pub number-least : 30 ≤ curveNumberOf covers (slot / 4) (slot % 4 + 1)
+  unfolding groupFits
+  number-least = let fits : groupFits covers (slot / 4) (slot % 4 + 1) ≡ true = group in leb-true _ _ (search (and-left, and-right) depth 6)
+
+  pub number-most : curveNumberOf covers (slot / 4) (slot % 4 + 1) ≤ 100
+  unfolding groupFits
+  number-most = let fits : groupFits covers (slot / 4) (slot % 4 + 1) ≡ true = group in leb-true _ _ (search (and-left, and-right) depth 6)
+
+  pub slot-number : (condition : Condition) → UpTo100 (curveNumber condition (curveNumberOf covers (slot / 4) (slot % 4 + 1)))
+  slot-number condition = curve-number-limits condition _ number-least number-most
+
+  pub slot-capacity : (water way : ℕ) → water ≤ 600 → cellFrom covers slot water way .capacity ≤ mostCapacity
+  unfolding cellFrom
+  slot-capacity water way w = mul-le-mul w root-depth-limit

@@ -1,0 +1,18 @@
+// The cover table: its test, its index by code, and what it says of a slot, which is one cover with one soil group.
+mod slots;
+mod table;
+
+pub use slots::MOST_SLOTS;
+pub use slots::is_open;
+pub use slots::largest_recharge;
+pub use slots::root_depths;
+pub use slots::season_figure;
+pub use slots::small_place;
+pub use slots::table_number;
+pub use table::CODES;
+pub use table::ENTRY_NUMBERS;
+pub use table::MOST_CODE;
+pub use table::MOST_ENTRIES;
+pub use table::MOST_ROOT_DEPTH;
+pub use table::OPEN_FLAG;
+pub use table::read_covers;
