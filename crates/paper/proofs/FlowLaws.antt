@@ -1,6 +1,6 @@
 -- Rule 4's water on a grid without rings. The water defined by steps upslope is the one and only list with W(i) = own(i) + the outflows
 -- pointing to i: along an order in which each cell stands after those that point to it, what reaches a cell is settled once its turn has
--- come. It rises with the cells' own water, no cell's passes the sum of all own water (the cells up to a cell's turn hold, besides it,
+-- come. It rises with the cells' own water and with what they pass on, no cell's passes the sum of all own water (the cells up to a cell's turn hold, besides it,
 -- all that flows among them), and the inflows are the outflows that point inside.
 use mathlib.Core.Path.{_≡_, sym, ap, ap₂, _∙_, subst}
 use mathlib.Core.Bool.{Bool}
@@ -72,22 +72,6 @@ module _ (n : ℕ) (next : ℕ → ℕ) (passed : ℕ → ℕ → ℕ) where
   arriving-inside w =
       sum-swap n n (λ i j. given (eqb (next j) i) (passed j (w j))) ∙ sum-cong n _ _ (λ j h. one-way (λ i k. passed k (w k)) j)
 
-  module _ (rising : (j w v : ℕ) → j < n → w ≤ v → passed j w ≤ passed j v) (own owned : ℕ → ℕ) (more : (i : ℕ) → i < n → own i ≤ owned i) where
-    rising-from : (k i : ℕ) → i < n → waterFrom n next passed own k i ≤ waterFrom n next passed owned k i
-    unfolding waterFrom arriving
-    rising-from zero i h = more i h
-    rising-from (suc k) i h =
-        add-le-add (more i h) (sum-le n _ _ (λ j hj. given-le (eqb (next j) i) (rising j _ _ hj (rising-from k j hj))))
-
-    pub water-rises : (i : ℕ) → i < n → water n next passed own i ≤ water n next passed owned i
-    unfolding water
-    water-rises = rising-from n
-
-    pub arriving-rises : (i : ℕ)
-        → arriving n next passed (water n next passed own) i ≤ arriving n next passed (water n next passed owned) i
-    unfolding arriving
-    arriving-rises i = sum-le n _ _ (λ j hj. given-le (eqb (next j) i) (rising j _ _ hj (water-rises j hj)))
-
   -- no cell's water passes the sum of all own water: with U the cells up to i's turn, and V those before it, all that arrives in U comes from V
   module _ (order : UpslopeFirst n next) (most : (j w : ℕ) → j < n → passed j w ≤ w) (own : ℕ → ℕ) (i : ℕ) (hi : i < n) where
     abbrev inU : ℕ → Bool
@@ -134,6 +118,23 @@ module _ (n : ℕ) (next : ℕ → ℕ) (passed : ℕ → ℕ → ℕ) where
         (sum-le n _ _ (λ c hc. beside c)) in
         omega (arith, arriving-in-U, sum-le n (λ c. given (inU c) (own c)) own (λ c hc. given-most (inU c) (own c)))
 
+-- the water rises with the cells' own water, and with what they pass on of it
+module _ (n : ℕ) (next : ℕ → ℕ) (passed by : ℕ → ℕ → ℕ) (rising : (j w v : ℕ) → j < n → w ≤ v → passed j w ≤ by j v)
+    (own owned : ℕ → ℕ) (more : (i : ℕ) → i < n → own i ≤ owned i) where
+  rising-from : (k i : ℕ) → i < n → waterFrom n next passed own k i ≤ waterFrom n next by owned k i
+  unfolding waterFrom arriving
+  rising-from zero i h = more i h
+  rising-from (suc k) i h =
+      add-le-add (more i h) (sum-le n _ _ (λ j hj. given-le (eqb (next j) i) (rising j _ _ hj (rising-from k j hj))))
+
+  pub water-rises : (i : ℕ) → i < n → water n next passed own i ≤ water n next by owned i
+  unfolding water
+  water-rises = rising-from n
+
+  pub arriving-rises : (i : ℕ) → arriving n next passed (water n next passed own) i ≤ arriving n next by (water n next by owned) i
+  unfolding arriving
+  arriving-rises i = sum-le n _ _ (λ j hj. given-le (eqb (next j) i) (rising j _ _ hj (water-rises j hj)))
+
 -- the water goes by the cells' own water and outflows, cell by cell
 module _ (n : ℕ) (next : ℕ → ℕ) (passed by : ℕ → ℕ → ℕ) (own owned : ℕ → ℕ)
     (same : (j w : ℕ) → j < n → passed j w ≡ by j w) (alike : (i : ℕ) → i < n → own i ≡ owned i) where
@@ -147,3 +148,7 @@ module _ (n : ℕ) (next : ℕ → ℕ) (passed by : ℕ → ℕ → ℕ) (own o
   pub water-same : (i : ℕ) → i < n → water n next passed own i ≡ water n next by owned i
   unfolding water
   water-same = same-from n
+
+  pub arriving-same : (i : ℕ) → arriving n next passed (water n next passed own) i ≡ arriving n next by (water n next by owned) i
+  unfolding arriving
+  arriving-same i = sum-cong n _ _ (λ j hj. ap (given (eqb (next j) i)) (same j _ hj ∙ ap (by j) (water-same j hj)))

@@ -3,6 +3,7 @@ pub mod OutflowLaws
 pub mod RetentionLaws
 pub mod SoilLaws
 pub mod FlowLaws
+pub mod ArrivalLaws
 pub mod RefusalLaws
 pub mod DirectionLaws
 pub mod StateLaws

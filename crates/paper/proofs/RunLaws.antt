@@ -31,7 +31,7 @@ module _ (s : Setup) (a b : State) (t : Today) (g h : ℕ) (more : g ≤ h)
   inflow-rises : (i : ℕ) → inflow s a (raining t g) i ≤ inflow s b (raining t h) i
   unfolding inflow passed passedOf own
   inflow-rises =
-      arriving-rises (cells s) (next s) (passed s t)
+      arriving-rises (cells s) (next s) (passed s t) (passed s t)
       (λ j w v hj less. passed-rises (cell s j) t (numbers j hj) w v less)
       (own s a (raining t g)) (own s b (raining t h))
       (λ i hi. own-rises (cell s i) t g h more (snowAt a i) (snowAt b i) (snow i))

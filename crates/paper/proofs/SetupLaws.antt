@@ -141,6 +141,21 @@ interception-fits covers e fits = (leb-true _ _ (search (and-left, and-right)), 
 open-not-to : {j : ℕ} → openWater ≡ to j → ⊥
 open-not-to e = let z : _≡_ {A = ℕ} 0 1 = cc in omega arith
 
+-- by its byte no cell has the number of open water
+not-open : (width height i : ℕ) (w : Way) {n : ℕ} → n ≤ 4096 → ((j : ℕ) → goesBy width height i w ≡ to j → j < n)
+    → eqb (pointed (goesBy width height i w)) 4098 ≡ false
+unfolding goesBy cellAt pointed
+not-open width height i closed few inside = refl
+not-open width height i (toward down right) {n} few inside = go (stepped height down (i / width)) (stepped width right (i % width)) inside
+  where
+    go : (row column : Found) → ((j : ℕ) → cellAt width row column ≡ to j → j < n) → eqb (pointed (cellAt width row column)) 4098 ≡ false
+    go (at row) (at column) within =
+        let low : row * width + column < n = within (row * width + column) refl in
+        ne-eqb (row * width + column) 4098 (λ (same : row * width + column ≡ 4098). omega arith)
+    go (at row) nowhere within = refl
+    go nowhere (at column) within = refl
+    go nowhere nowhere within = refl
+
 module _ (s : Setup) (ok : Charted s) where
   -- a cell's entry is in the table, and has its code
   pub entry-in : (i : ℕ) → i < cells s → (entryOf s i < entries (s .covers)) × (codeOf (s .covers) (entryOf s i) ≡ coverOf s i)
@@ -204,6 +219,14 @@ module _ (s : Setup) (ok : Charted s) where
       go leaves inside = refl
       go stays inside = refl
       go openWater inside = refl
+
+  -- and none but open water 4,098
+  pub open-by : (i : ℕ) → i < cells s → isOpen s i ≡ eqb (next s i) 4098
+  unfolding next pointed
+  open-by i h =
+      byCases (isOpen s i) (λ o. rw (goes-open i o, o) refl)
+      (λ o. o ∙ sym (rw (goes-land i o)
+      (not-open (s .grid .width) (s .grid .height) i (wayOf (getD (s .direction) i 0)) (ok .few) (λ j q. to-inside i j h (goes-land i o ∙ q)))))
 
   -- past the last cell nothing points inside: there is no cover code, the table has none for it, and its direction is none of the eight
   module _ (each : length (s .direction) ≡ cells s) (covered : length (s .cover) ≡ cells s) where

@@ -6,3 +6,4 @@ pub mod SumsAlong
 pub mod LowestLaws
 pub mod WayLaws
 pub mod Widths
+pub mod AlongLaws

@@ -4,6 +4,7 @@ use mathlib.Core.Path.{_≡_, refl, sym, ap, _∙_}
 use mathlib.Core.List.{List, [], _∷_, _++_, append-nil}
 use Prim.Native.Nat.{ℕ, zero, suc, _+_, _-_, _≤_, _<_, suc-le-suc}
 use native.Mathlib.Nat.{not-suc-le-zero, le-of-suc-le-suc, zero-lt-suc, add-sub-of-le, le-of-eq}
+use native.Mathlib.Numerals.{add-one}
 use native.Mathlib.Omega.{arith}
 use lib.ListN.{length, getD, set, drop, length-append, length-drop, length-set, drop-of-length-le, List·getD-append}
 use lib.Dec.{eqb}
@@ -100,3 +101,7 @@ made-set n k f g x here other =
         (λ e. let same : i ≡ k = eqb-true i k e in
         rw (same) (getD-set-same (made n f) k x 0 (rw (made-length n f) (rw same at low)) ∙ sym here ∙ sym (made-at n g 0 k (rw same at low))))
         (λ e. getD-set-other (made n f) k i x 0 (eqb-false i k e) ∙ made-at n f 0 i low ∙ other i (eqb-false i k e) ∙ sym (made-at n g 0 i low))
+
+-- one turn of a loop that writes a list place by place: x is stored at i, and the places below i were the rule's already
+pub wrote : (f : ℕ → ℕ) (before now : List ℕ) (i x : ℕ) → now ≡ madeOver i f before → x ≡ f i → i < length before → set now i x ≡ madeOver (i + 1) f before
+wrote f before now i x e v h = rw (add-one i, e, v) (over-more i f before h)
