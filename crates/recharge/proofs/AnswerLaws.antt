@@ -1,56 +1,61 @@
--- A day's answer is the paper's. What the tests pass gives the day's passes all they ask for; the figures that they settle are those of the paper's
--- cells, in which the water that reached each is rule 4's; and a refused day hands back what it was given.
+-- A day's answer is the paper's. What the tests pass gives the pass downhill all it asks for; the plot of each cell's slot is that of the paper's cell,
+-- so that the figures of the pass are the paper's, in which what arrives at each cell is rule 4's; and a refused day hands back what it was given.
 use mathlib.Core.Path.{_≡_, refl, sym, ap, ap₂, _∙_}
-use mathlib.Core.Bool.{Bool, true, not, _||_}
+use mathlib.Core.Bool.{Bool, true, false}
 use mathlib.Core.List.{List}
-use Prim.Native.Nat.{ℕ, _+_, _≤_, _<_}
+use Prim.Native.Nat.{ℕ, _+_, _*_, _/_, _%_, _≤_, _<_}
 use native.Mathlib.Omega.{arith}
 use lib.Dec.{eqb}
-use lib.ListN.{length}
+use lib.ListN.{length, getD}
 use borrow.Author.Tests.{eqb-true, ne-eqb}
 use Rattle.theory.specs.Lists.{made}
 use Rattle.theory.specs.Sums.{sum, given}
-use Rattle.theory.proofs.Cases.{and-left, and-right}
+use Rattle.theory.proofs.Cases.{and-left, and-right, byCases}
 use Rattle.theory.proofs.ListLaws.{made-cong}
 use Rattle.theory.proofs.SumLaws.{sum-cong}
-use Rattle.paper.specs.Directions.{Goes, to, leaves, stays}
+use Rattle.paper.specs.Limits.{mostGross}
+use Rattle.paper.specs.Covers.{entries}
+use Rattle.paper.specs.Directions.{Goes, to, leaves, stays, openWater}
 use Rattle.paper.specs.Setup.{Setup, Cell, cell, cells, isOpen, goes, pointed, next}
 use Rattle.paper.specs.State.{State, Day, Memory, remembered, serial, soilAt, snowAt}
-use Rattle.paper.specs.CellDay.{Today, today, Figures, cellDay, ownOf, passedOf}
-use Rattle.paper.specs.Flow.{water}
-use Rattle.paper.specs.Refusals.{Verdict, accepted, refused, verdict, oneEach, setupLengths}
+use Rattle.paper.specs.CellDay.{Today, today, Figures, cellDay}
+use Rattle.paper.specs.CurveNumber.{curveNumber}
+use Rattle.paper.specs.Refusals.{Verdict, accepted, refused, oneEach, setupLengths}
 use Rattle.paper.specs.Day as paper
 use Rattle.paper.proofs.DayLaws as days
-use Rattle.paper.proofs.FlowLaws.{water-same}
-use Rattle.paper.proofs.SetupLaws.{Charted, to-inside, next-past}
+use Rattle.paper.proofs.FlowLaws.{arriving-same}
+use Rattle.paper.proofs.SetupLaws.{Charted, sound-cell, closed-by, open-by, to-inside, next-past}
 use Rattle.paper.proofs.SnowLaws.{melt-most}
-use Rattle.survey.specs.Cells.{cellIn}
-use Rattle.recharge.specs.CellDay.{figuresFrom}
+use Rattle.survey.specs.Cells.{slotOf}
 use Rattle.survey.specs.Routes.{nextIn}
-use Rattle.recharge.specs.Settle.{goneIn, totalsIn, totalsBy}
-use Rattle.recharge.specs.Run as runs
 use Rattle.survey.specs.Survey.{Mapped}
 use Rattle.records.specs.Calls.{outcomeIn, verdictAs}
 use Rattle.records.specs.declared.answers.Outcome.{Outcome}
 use Rattle.records.specs.declared.answers.Outcome.the-variants.{Accepted}
 use Rattle.records.specs.declared.answers.Totals.{Totals}
-use Rattle.survey.proofs.CellLaws.{slot-entry}
 use Rattle.records.proofs.LimitLaws.{DayKnown, day-known}
 use Rattle.records.proofs.OutcomeLaws.{verdict-back}
-use Rattle.survey.proofs.MapLaws.{slot-at, slots-fit, way-at, cell-in}
-use Rattle.survey.proofs.WayArrays.{ways-next}
+use Rattle.survey.proofs.CellLaws.{slot-limit, cell-is}
+use Rattle.survey.proofs.CoverLaws.{count-limit}
+use Rattle.survey.proofs.MapLaws.{slot-at}
+use Rattle.survey.proofs.WayArrays.{over-at, ways-next}
+use Rattle.recharge.specs.Plots.{plotsOf, plotFor}
+use Rattle.recharge.specs.CellDay.{goneBy}
+use Rattle.recharge.specs.Totals.{totalsIn, totalsBy}
+use Rattle.recharge.specs.Downhill as pass
+use Rattle.recharge.proofs.PlotLaws.{plot-is}
+use Rattle.recharge.proofs.FigureLaws.{plot-fits, store-plot, own-plot, passed-plot, day-plot}
 
-module _ (s : Setup) (st : State) (r : paper.Results) (d : Day) (before ways₀ slots ways order : List ℕ)
-    (ok : days.SoundDay s st r d) (m : Mapped s before ways₀ slots ways order) where
-  abbrev t : Today
-  t = today s (st .memory) d
-
+module _ (s : Setup) (st : State) (r : paper.Results) (d : Day) (before ways₀ slots ways order : List ℕ) (t : Today) (blank plots : List ℕ)
+    (ok : days.SoundDay s st r d) (m : Mapped s before ways₀ slots ways order)
+    (is-today : t ≡ today s (st .memory) d) (filled : plots ≡ plotsOf t (s .covers) blank) where
   chart : Charted s
   chart = ok .setup .charted
 
   -- one entry a cell
   record Lent : Type 0 where
     directions : length (s .direction) ≡ cells s
+    covers : length (s .cover) ≡ cells s
     waters : length (s .water) ≡ cells s
     soils : length (st .soil) ≡ cells s
     snows : length (st .snow) ≡ cells s
@@ -66,6 +71,7 @@ module _ (s : Setup) (st : State) (r : paper.Results) (d : Day) (before ways₀ 
       let e : oneEach (cells s) (paper.lengthsOf s st r) ≡ true = ok .setup .lent in
       record {
         directions = eqb-true _ _ (search (and-left, and-right) depth 12);
+        covers = eqb-true _ _ (search (and-left, and-right) depth 12);
         waters = eqb-true _ _ (search (and-left, and-right) depth 12);
         soils = eqb-true _ _ (search (and-left, and-right) depth 12);
         snows = eqb-true _ _ (search (and-left, and-right) depth 12);
@@ -77,79 +83,121 @@ module _ (s : Setup) (st : State) (r : paper.Results) (d : Day) (before ways₀ 
       }
 
   ways-point : nextIn (cells s) ways ≡ next s
-  ways-point = ap (nextIn (cells s)) (m .ways-are) ∙ ways-next (cells s) (next s) ways₀ (next-past s chart (lent .directions))
+  ways-point = ap (nextIn (cells s)) (m .ways-are) ∙ ways-next (cells s) (next s) ways₀ (next-past s chart (lent .directions) (lent .covers))
 
-  here : (i : ℕ) → i < cells s → cellIn (s .covers) slots (s .water) ways i ≡ cell s i
-  here = cell-in s chart before slots (m .slots-are) (m .slots-sized) (lent .waters) ways₀ ways (m .ways-are)
+  known : DayKnown d
+  known = day-known d (ok .day)
 
-  runnable-today : runs.Runnable t (s .covers) slots ways order (s .water) (st .soil) (st .snow) (r .intercepted) (r .outflow)
-      (r .evapotranspired) (r .recharged) (r .rejected)
+  few : t .gross ≤ mostGross
   unfolding today
-  runnable-today =
-      let n = lent .waters in
-      let known : DayKnown d = day-known d (ok .day) in
-      record {
-        gross = known .gross;
-        potential = known .potential;
-        melts = melt-most (d .maximum) (let warm = known .maximum in search (and-left, and-right));
-        cells = rw n (slots-fit s chart before slots (m .slots-are) (m .slots-sized) n);
-        pointing = record { most = rw n (chart .few); sized = m .ways-sized };
-        ordered = rw (n, ways-point) (m .ordered);
-        soils = lent .soils ∙ sym n;
-        snows = lent .snows ∙ sym n;
-        interceptions = lent .interceptions ∙ sym n;
-        outflows = lent .outflows ∙ sym n;
-        evapotranspirations = lent .evapotranspirations ∙ sym n;
-        recharges = lent .recharges ∙ sym n;
-        rejections = lent .rejections ∙ sym n;
-        held = λ i h. rw (here i (rw (← n) h)) (ok .soil i (rw (← n) h));
-        lying = λ i h. rw (here i (rw (← n) h)) (ok .snow i (rw (← n) h));
-        joined = λ i h. rw (here i (rw (← n) h)) (ok .room i (rw (← n) h));
-      }
+  few = rw is-today (known .gross)
 
-  pub runnable : (read : Today) → read ≡ t
-      → runs.Runnable read (s .covers) slots ways order (s .water) (st .soil) (st .snow) (r .intercepted) (r .outflow)
-      (r .evapotranspired) (r .recharged) (r .rejected)
-  runnable read e = rw e runnable-today
+  -- each cell's slot, way and plot
+  slot-small : (i : ℕ) → i < cells s → slotOf s i < 256
+  slot-small i h = omega (arith, slot-limit s chart i h, count-limit (s .covers) (record { sized = chart .sized; fit = chart .entered }))
 
-  reached-same : (i : ℕ) → i < cells s
-      → runs.reachedIn t (s .covers) slots ways (s .water) (st .soil) (st .snow) i ≡ water (cells s) (next s) (paper.passed s t) (paper.own s st t) i
-  unfolding runs.reachedIn runs.passedIn runs.ownIn paper.passed paper.own
-  reached-same i h =
-      rw (lent .waters, ways-point)
-      (water-same (cells s) (next s) _ (paper.passed s t) _ (paper.own s st t)
-      (λ j w hj. ap (λ (c : Cell). passedOf c t w) (here j hj)) (λ j hj. ap (λ (c : Cell). ownOf c t (snowAt st j)) (here j hj)) i h)
+  slot-here : (i : ℕ) → i < cells s → getD slots i 0 ≡ slotOf s i
+  slot-here = slot-at s chart before slots (m .slots-are) (m .slots-sized) (lent .waters)
 
-  -- each cell's figures
-  figure-same : (i : ℕ) → i < cells s
-      → runs.dayIn t (s .covers) slots ways (s .water) (st .soil) (st .snow) i ≡ paper.figuresOf s st d i
-  unfolding runs.dayIn figuresFrom paper.figuresOf paper.figures cellDay paper.own
-  figure-same i h =
-      ap (λ (c : Cell). figuresFrom c t (soilAt st i) (snowAt st i) (runs.reachedIn t (s .covers) slots ways (s .water) (st .soil) (st .snow) i)) (here i h)
-      ∙ ap (figuresFrom (cell s i) t (soilAt st i) (snowAt st i)) (reached-same i h ∙ days.reached s st r d ok i h)
+  way-here : (i : ℕ) → i < cells s → getD ways i 0 ≡ next s i
+  way-here i h = rw (m .ways-are) (over-at (cells s) (next s) ways₀ 0 i h)
 
-  -- what leaves the grid
-  gone-same : (i : ℕ) → i < cells s → goneIn (s .covers) slots ways i ≡ paper.isGone s i
-  unfolding goneIn paper.isGone paper.isLeaving isOpen next pointed
-  gone-same i h =
-      rw (slot-at s chart before slots (m .slots-are) (m .slots-sized) (lent .waters) i h, slot-entry s chart i h, way-at s chart before slots (m .slots-are) (m .slots-sized) (lent .waters) ways₀ ways (m .ways-are) i h)
-      (ap (λ (b : Bool). isOpen s i || b) (go (goes s i) (λ j. to-inside s chart i j h)))
+  plot-here : (i : ℕ) → i < cells s → pass.plotOfCell plots slots (s .water) i ≡ plotFor t (cell s i)
+  unfolding pass.plotOfCell
+  plot-here i h =
+      rw (slot-here i h)
+      (plot-is t (s .covers) blank plots few filled (slotOf s i) (slot-limit s chart i h) (slot-small i h) (getD (s .water) i 0) (next s i))
+      ∙ ap (plotFor t) (sym (cell-is s chart i h))
+
+  -- what tells open water, and what leaves the grid
+  lake : (i : ℕ) → i < cells s → eqb (getD ways i 0) 4098 ≡ cell s i .open?
+  unfolding cell
+  lake i h = rw (way-here i h) (sym (open-by s chart i h))
+
+  closes : (i : ℕ) → i < cells s → eqb (getD ways i 0) 4097 ≡ cell s i .closed?
+  unfolding cell
+  closes i h = rw (way-here i h) (sym (closed-by s chart i h))
+
+  gone-same : (i : ℕ) → i < cells s → pass.goneAt ways i ≡ paper.isGone s i
+  unfolding goneBy paper.isGone paper.isLeaving next pointed
+  gone-same i h = rw (way-here i h) (go (goes s i) (λ j. to-inside s chart i j h))
     where
-      go : (g : Goes) → ((j : ℕ) → g ≡ to j → j < cells s) → eqb (pointed g) 4096 ≡ paper.isLeaving g
+      go : (g : Goes) → ((j : ℕ) → g ≡ to j → j < cells s) → goneBy (pointed g) ≡ paper.isLeaving g
       go (to j) inside =
-          let few : cells s ≤ 4096 = chart .few in
+          let all : cells s ≤ 4096 = chart .few in
           let low : j < cells s = inside j refl in
-          ne-eqb j 4096 (λ (same : j ≡ 4096). omega arith)
+          rw (ne-eqb j 4096 (λ (same : j ≡ 4096). omega arith), ne-eqb j 4098 (λ (same : j ≡ 4098). omega arith)) refl
       go leaves inside = refl
       go stays inside = refl
+      go openWater inside = refl
 
-  totals-same : (n gross : ℕ) (f : ℕ → Figures) (gone? : ℕ → Bool) → n ≡ cells s → ((i : ℕ) → i < cells s → f i ≡ paper.figuresOf s st d i)
-      → ((i : ℕ) → i < cells s → gone? i ≡ paper.isGone s i) → totalsBy n gross f gone? ≡ paper.totalsOf s gross (paper.figuresOf s st d)
+  -- the lent slices
+  abbrev slices : pass.Slices
+  slices = pass.slicesOf (st .soil) (st .snow) (r .intercepted) (r .outflow) (r .evapotranspired) (r .recharged) (r .rejected)
+
+  pub ready : pass.Ready t plots slots ways order (s .water) slices
+  unfolding today plotFor
+  ready =
+      let n = lent .waters in
+      record {
+        gross = few;
+        potential = rw is-today (known .potential);
+        melts = rw is-today (melt-most (d .maximum) (let warm = known .maximum in search (and-left, and-right)));
+        slots-sized = m .slots-sized;
+        pointing = record { most = rw n (chart .few); sized = m .ways-sized };
+        ordered = rw (n, ways-point) (m .ordered);
+        sized =
+            record {
+              soil = lent .soils ∙ sym n;
+              snow = lent .snows ∙ sym n;
+              intercepted = lent .interceptions ∙ sym n;
+              outflow = lent .outflows ∙ sym n;
+              evapotranspired = lent .evapotranspirations ∙ sym n;
+              recharged = lent .recharges ∙ sym n;
+              rejected = lent .rejections ∙ sym n;
+            };
+        slotted = λ i h. let k : i < cells s = rw n at h in rw (slot-here i k) (slot-small i k);
+        plotted =
+            λ i h. let k : i < cells s = rw n at h in
+            rw (plot-here i k) (plot-fits t (cell s i) few (sound-cell s chart i k .capacity) (curve i k));
+        held = λ i h. let k : i < cells s = rw n at h in rw (plot-here i k) (ok .soil i k);
+        lying =
+            λ i h. let k : i < cells s = rw n at h in
+            rw (plot-here i k) (store-plot t (cell s i) (snowAt st i) (ok .snow i k) (λ e. rw is-today (ok .room i k e)));
+      }
+    where
+      curve : (i : ℕ) → i < cells s → curveNumber (t .condition) (cell s i .N) ≤ 100
+      curve i k = rw is-today (days.small s st r d ok i k)
+
+  -- what a cell passes on, its own water, what arrives at it, and its figures
+  passes : (j w : ℕ) → j < cells s → pass.passedAt plots slots ways (s .water) j w ≡ paper.passed s t j w
+  unfolding pass.passedAt paper.passed
+  passes j w h = rw (plot-here j h) (passed-plot t (cell s j) (getD ways j 0) (lake j h) (closes j h) w)
+
+  owns : (j : ℕ) → j < cells s → pass.ownAt t plots slots (s .water) (st .snow) j ≡ paper.own s st t j
+  unfolding pass.ownAt paper.own
+  owns j h = rw (plot-here j h) (own-plot t (cell s j) (snowAt st j) (ok .snow j h))
+
+  inflow-same : (i : ℕ) → pass.inflowAt t plots slots ways (s .water) (st .soil) (st .snow) i ≡ paper.inflow s st t i
+  unfolding pass.inflowAt paper.inflow
+  inflow-same i =
+      rw (lent .waters, ways-point)
+      (arriving-same (cells s) (next s) (pass.passedAt plots slots ways (s .water)) (paper.passed s t)
+      (pass.ownAt t plots slots (s .water) (st .snow)) (paper.own s st t) passes owns i)
+
+  figure-same : (i : ℕ) → i < cells s → pass.figuresAt t plots slots ways (s .water) (st .soil) (st .snow) i ≡ paper.figuresOf s st d i
+  unfolding pass.figuresAt paper.figuresOf paper.figures
+  figure-same i h =
+      rw (plot-here i h, inflow-same i) (day-plot t (cell s i) (getD ways i 0) (lake i h) (closes i h) (soilAt st i) (snowAt st i) _ (ok .soil i h) (ok .snow i h))
+      ∙ ap (λ (x : Today). cellDay (cell s i) x (soilAt st i) (snowAt st i) (paper.inflow s st x i)) is-today
+
+  totals-same : (n gross : ℕ) (f : ℕ → Figures) (gone? : ℕ → Bool) → n ≡ cells s → gross ≡ d .gross → ((i : ℕ) → i < cells s → f i ≡ paper.figuresOf s st d i)
+      → ((i : ℕ) → i < cells s → gone? i ≡ paper.isGone s i) → totalsBy n gross f gone? ≡ paper.totalsOf s (d .gross) (paper.figuresOf s st d)
   unfolding totalsBy paper.totalsOf
-  totals-same n gross f gone? count same left =
-      rw count
+  totals-same n gross f gone? count rain same left =
+      rw (count, rain)
       (λ k. record {
-        gross = sum (cells s) (λ i. gross);
+        gross = sum (cells s) (λ i. d .gross);
         intercepted = part (λ x. x .intercepted) k;
         evapotranspired = part (λ x. x .evapotranspired) k;
         recharged = part (λ x. x .recharged) k;
@@ -163,58 +211,65 @@ module _ (s : Setup) (st : State) (r : paper.Results) (d : Day) (before ways₀ 
       part : (p : Figures → ℕ) → sum (cells s) (λ i. p (f i)) ≡ sum (cells s) (λ i. p (paper.figuresOf s st d i))
       part p = sum-cong (cells s) _ _ (λ i h. ap p (same i h))
 
+  slices-same : (n : ℕ) (f : ℕ → Figures) → n ≡ cells s → ((i : ℕ) → i < cells s → f i ≡ paper.figuresOf s st d i)
+      → pass.slicesBy n f ≡ pass.slicesBy (cells s) (paper.figuresOf s st d)
+  unfolding pass.slicesBy
+  slices-same n f count same =
+      rw count
+      (λ k. record {
+        soil = part (λ x. x .soil) k;
+        snow = part (λ x. x .snow) k;
+        intercepted = part (λ x. x .intercepted) k;
+        outflow = part (λ x. x .outflow) k;
+        evapotranspired = part (λ x. x .evapotranspired) k;
+        recharged = part (λ x. x .recharged) k;
+        rejected = part (λ x. x .rejected) k;
+      })
+    where
+      part : (p : Figures → ℕ) → made (cells s) (λ i. p (f i)) ≡ made (cells s) (λ i. p (paper.figuresOf s st d i))
+      part p = made-cong (cells s) _ _ (λ i h. ap p (same i h))
+
+  today-gross : t .gross ≡ d .gross
+  unfolding today
+  today-gross = ap (λ (x : Today). x .gross) is-today
+
   -- the whole answer of an accepted day
   pub accepted-answer : paper.verdictOf s st r d ≡ accepted → (o : Outcome) → o ≡ Accepted → (memory : Memory)
-      → memory ≡ remembered (st .memory) (d .gross) → (read : Today) → read ≡ t
-      → (totals : Totals) (soil snow intercepted outflow evapotranspired recharged rejected : List ℕ)
-      → runs.Ran read (s .covers) slots ways (s .water) (st .soil) (st .snow) totals soil snow intercepted outflow evapotranspired recharged rejected
+      → memory ≡ remembered (st .memory) (d .gross) → (totals : Totals) (after : pass.Slices)
+      → pass.Ran t plots slots ways (s .water) slices totals after
       → record {
         verdict = verdictAs o;
         results =
             record {
-              intercepted = intercepted;
-              outflow = outflow;
-              evapotranspired = evapotranspired;
-              recharged = recharged;
-              rejected = rejected;
+              intercepted = after .intercepted;
+              outflow = after .outflow;
+              evapotranspired = after .evapotranspired;
+              recharged = after .recharged;
+              rejected = after .rejected;
             };
         totals = totalsIn totals;
-        state = record { soil = soil; snow = snow; memory = memory; last = serial (d .serial) };
+        state = record { soil = after .soil; snow = after .snow; memory = memory; last = serial (d .serial) };
       }
       ≡ paper.dayOf s st r d
-  unfolding paper.outcomeAs paper.resultsOf paper.nextState today
-  accepted-answer v o passed memory next read today-is totals soil snow intercepted outflow evapotranspired recharged rejected lately =
-      let ran : runs.Ran t (s .covers) slots ways (s .water) (st .soil) (st .snow) totals soil snow intercepted outflow evapotranspired recharged rejected
-      = rw today-is at lately in
-      let e = ran .settled in
+  unfolding paper.outcomeAs paper.resultsOf paper.nextState pass.slicesBy
+  accepted-answer v o passed memory next totals after ran =
       (λ k. record {
         verdict = verdictAs (passed k);
         results =
             record {
-              intercepted = listed (λ x. x .intercepted) (e .interceptions) k;
-              outflow = listed (λ x. x .outflow) (ran .outflow-is) k;
-              evapotranspired = listed (λ x. x .evapotranspired) (e .evapotranspirations) k;
-              recharged = listed (λ x. x .recharged) (e .recharges) k;
-              rejected = listed (λ x. x .rejected) (e .rejections) k;
+              intercepted = (same k) .intercepted;
+              outflow = (same k) .outflow;
+              evapotranspired = (same k) .evapotranspired;
+              recharged = (same k) .recharged;
+              rejected = (same k) .rejected;
             };
-        totals = (e .summed ∙ totals-same _ _ _ _ (lent .waters) figure-same gone-same) k;
-        state =
-            record {
-              soil = listed (λ x. x .soil) (e .soils) k;
-              snow = listed (λ x. x .snow) (e .snows) k;
-              memory = next k;
-              last = serial (d .serial);
-            };
+        totals = (ran .summed ∙ totals-same _ _ _ _ (lent .waters) today-gross figure-same gone-same) k;
+        state = record { soil = (same k) .soil; snow = (same k) .snow; memory = next k; last = serial (d .serial) };
       })
       ∙ sym (days.accepted-is s st r d v)
     where
-      listed : {l : List ℕ} (p : Figures → ℕ)
-          → l ≡ made (length (s .water)) (λ i. p (runs.dayIn t (s .covers) slots ways (s .water) (st .soil) (st .snow) i))
-          → l ≡ made (cells s) (λ i. p (paper.figuresOf s st d i))
-      listed p q =
-          q
-          ∙ ap (λ (n : ℕ). made n (λ i. p (runs.dayIn t (s .covers) slots ways (s .water) (st .soil) (st .snow) i))) (lent .waters)
-          ∙ made-cong (cells s) _ _ (λ i h. ap p (figure-same i h))
+      same : after ≡ pass.slicesBy (cells s) (paper.figuresOf s st d)
+      same = ran .written ∙ slices-same _ _ (lent .waters) figure-same
 
 -- a refused day hands back what it was given
 pub refused-answer : (s : Setup) (st : State) (r : paper.Results) (d : Day) (o given-o : Outcome) (totals : paper.Totals) (state : State)

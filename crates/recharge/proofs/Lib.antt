@@ -1,9 +1,8 @@
-pub mod AnswerLaws
-pub mod FigureLaws
-pub mod LoopLaws
 pub mod LossRoom
 pub mod RetentionTable
-pub mod RoutingLaws
-pub mod CoverDayLaws
-pub mod RunLaws
-pub mod SettleLaws
+pub mod PlotLaws
+pub mod FigureLaws
+pub mod SliceLaws
+pub mod TotalsLaws
+pub mod DownhillLaws
+pub mod AnswerLaws

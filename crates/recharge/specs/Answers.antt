@@ -3,7 +3,7 @@ use mathlib.Core.List.{List}
 use Prim.Native.Nat.{ℕ}
 use Rattle.paper.specs.Day as paper
 use Rattle.records.specs.Calls.{stateOf, verdictAs}
-use Rattle.recharge.specs.Settle.{totalsIn}
+use Rattle.recharge.specs.Totals.{totalsIn}
 use Rattle.records.specs.declared.answers.Answer.{Answer}
 
 abbrev pub resultsOf : List ℕ → List ℕ → List ℕ → List ℕ → List ℕ → paper.Results

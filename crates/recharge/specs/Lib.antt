@@ -1,10 +1,8 @@
 pub mod Depths
 pub mod Retention
 pub mod Soil
-pub mod Routing
-pub mod OwnWater
-pub mod CoverDay
+pub mod Plots
 pub mod CellDay
-pub mod Settle
-pub mod Run
+pub mod Totals
+pub mod Downhill
 pub mod Answers

@@ -2,10 +2,11 @@
 ghost use mathlib.Core.Path.{_≡_};
 ghost use Rattle.paper.specs.Day.{dayOf, noTotals};
 ghost use Rattle.records.specs.Calls.{setupOf, stateOf, dayIn};
-ghost use Rattle.recharge.specs.Settle.{totalsIn};
+ghost use Rattle.recharge.specs.Totals.{totalsIn};
 ghost use Rattle.recharge.specs.Answers.{resultsOf, answered};
-use crate::run::run;
-use crate::settle::none_yet;
+use crate::downhill::downhill;
+use crate::plots::plots;
+use crate::totals::none_yet;
 use admission::Lengths;
 use admission::admit;
 use records::Answer;
@@ -79,9 +80,12 @@ pub fn day(
     let Outcome::Accepted = outcome else {
         return refused(outcome, memory, last);
     };
-    let totals = run(
-        today_of(setup, memory, day),
-        covers,
+    let today = today_of(setup, memory, day);
+    let mut shared = [0u32; 1536];
+    plots(today, covers, &mut shared);
+    let totals = downhill(
+        today,
+        &shared,
         &slot,
         &way,
         &turn,

@@ -1,83 +1,77 @@
-// Rules 1, 2, 3, 7 and 8 on one cell that water has reached: the figures of its day. Open water needs no case of its own, which a processor
-// would often guess wrong: its soil holds nothing, no snow lies on it, and all that reached it flows out, so that every other figure is 0.
-ghost use mathlib.Core.Bool.{_||_};
+// Rules 1 to 8 on one cell, once all that flows to it has arrived. Open water needs a case of its own in its outflow alone: its soil holds nothing
+// and no snow lies on it, so that every figure but what flows out is 0.
 ghost use mathlib.Core.Path.{_≡_};
-ghost use Prim.Native.Nat.{_≤_};
-ghost use lib.Dec.{eqb};
-ghost use Rattle.theory.specs.Sums.{given};
-ghost use Rattle.paper.specs.Limits.{mostCells};
-ghost use Rattle.paper.specs.Setup.{Cell};
-ghost use Rattle.paper.specs.State.{mostSnowOf};
-ghost use Rattle.paper.specs.CellDay.{passedOf};
+ghost use Prim.Native.Nat.{_≤_, _<_};
+ghost use Rattle.paper.specs.Limits.{mostCurveNumber};
 ghost use Rattle.records.specs.Calls.{todayOf};
-ghost use Rattle.recharge.specs.CellDay.{figuresFrom, figuresOf, CellReady};
-ghost use Rattle.recharge.specs.CoverDay.{Stands};
-use crate::cover_day::Plot;
+ghost use Rattle.recharge.specs.Depths.{waterLimit};
+ghost use Rattle.recharge.specs.Plots.{plotOf};
+ghost use Rattle.recharge.specs.CellDay.{figuresOf, passedBy, figuresBy, CellReady};
+use crate::outflow::outflow as runoff;
+use crate::plots::Plot;
+use crate::retention::KNOTS;
 use crate::soil::soil_day;
+use crate::ways::Way;
 use records::Depth;
 use records::Today;
 use records::melt;
 
+// Depths of 32 bits, as the lent slices hold them.
 pub(crate) struct Figures {
-    pub(crate) intercepted: Depth,
-    pub(crate) outflow: Depth,
-    pub(crate) evapotranspired: Depth,
-    pub(crate) recharged: Depth,
-    pub(crate) rejected: Depth,
-    pub(crate) soil: Depth,
-    pub(crate) snow: Depth,
-    // What of the outflow leaves the grid.
-    pub(crate) gone: Depth,
+    pub(crate) intercepted: u32,
+    pub(crate) outflow: u32,
+    pub(crate) evapotranspired: u32,
+    pub(crate) recharged: u32,
+    pub(crate) rejected: u32,
+    pub(crate) soil: u32,
+    pub(crate) snow: u32,
 }
 
-// All of the outflow leaves the grid from open water and over the edge.
-fn gone_from(code: u32, way: u32, outflow: Depth) -> Depth
-    ensures { λ r. ⌜ r .0 ≡ given (eqb code 101 || eqb way mostCells) (outflow .0) ⌝ }
+// What flows out of a cell: all of its water on open water, and nothing from a closed depression.
+fn passed(plot: Plot, way: Way, water: Depth) -> Depth
+    requires { ⌜ (plotOf plot .curve ≤ mostCurveNumber) × (water .0 < waterLimit) ⌝ }
+    ensures { λ r. ⌜ r .0 ≡ passedBy (plotOf plot) (way .0) (water .0) ⌝ }
 {
-    if code == 101 {
-        return outflow;
+    if way.0 == Way::OPEN_WATER.0 {
+        return water;
     }
-    if way == 4096 {
-        return outflow;
+    if way.0 == Way::CLOSED.0 {
+        return Depth(0);
     }
-    Depth(0)
+    runoff(plot.curve_number, water)
 }
 
-// The routing has worked out what flows out, so it is not worked out again.
 pub(crate) fn cell_day(
-    f: &[u32; 2049],
+    f: &[u32; KNOTS],
     today: Today,
     plot: Plot,
-    way: u32,
+    way: Way,
     soil: Depth,
     snow: Depth,
-    reached: Depth,
-    outflow: Depth,
+    arrived: Depth,
 ) -> Figures
-    requires { ⌜ CellReady (todayOf today) (plot .most .0) (plot .snowfall .0) (soil .0) (snow .0) (reached .0) (now f) ⌝ }
-    ensures { λ r. ⌜ ((c : Cell) → Stands c (todayOf today) plot → snow .0 ≤ mostSnowOf c → outflow .0 ≡ passedOf c (todayOf today) (reached .0) → figuresOf r ≡ figuresFrom c (todayOf today) (soil .0) (snow .0) (reached .0)) × (r .gone .0 ≡ given (eqb (plot .code) 101 || eqb way mostCells) (r .outflow .0)) ⌝ }
+    requires { ⌜ CellReady (todayOf today) (plotOf plot) (soil .0) (snow .0) (arrived .0) (now f) ⌝ }
+    ensures { λ r. ⌜ figuresOf r ≡ figuresBy (todayOf today) (plotOf plot) (way .0) (soil .0) (snow .0) (arrived .0) ⌝ }
 {
-    let most = plot.most;
-    let largest = plot.largest;
-    let held = plot.held;
-    let potential = today.potential;
-    let meltable = today.meltable;
     let store = Depth(snow.0 + plot.snowfall.0);
-    let lying = store.beyond(melt(store, meltable));
-    let below = soil_day(f, most, largest, soil, reached.beyond(outflow), potential);
-    let evapotranspired = below.evapotranspired;
-    let recharged = below.recharged;
-    let rejected = below.rejected;
-    let kept = below.soil;
-    let gone = gone_from(plot.code, way, outflow);
+    let melted = melt(store, today.meltable);
+    let water = Depth(plot.rain.0 + melted.0 + arrived.0);
+    let outflow = passed(plot, way, water);
+    let ground = soil_day(
+        f,
+        plot.capacity,
+        plot.largest_recharge,
+        soil,
+        water.beyond(outflow),
+        today.potential,
+    );
     Figures {
-        intercepted: held,
-        outflow,
-        evapotranspired,
-        recharged,
-        rejected,
-        soil: kept,
-        snow: lying,
-        gone,
+        intercepted: plot.intercepted.0 as u32,
+        outflow: outflow.0 as u32,
+        evapotranspired: ground.evapotranspired.0 as u32,
+        recharged: ground.recharged.0 as u32,
+        rejected: ground.rejected.0 as u32,
+        soil: ground.soil.0 as u32,
+        snow: store.beyond(melted).0 as u32,
     }
 }

@@ -1,17 +1,14 @@
 // The library: the office's three calls, and its rules as code. Each rule is one function, and its contract is one definition of the crate `paper`.
 mod calls;
 mod cell_day;
-mod cover_day;
-mod curve_numbers;
-mod interception;
+mod downhill;
 mod loss;
 mod outflow;
-mod own_water;
+mod plots;
 mod retention;
-mod routing;
-mod run;
-mod settle;
 mod soil;
+mod totals;
+mod ways;
 
 pub use calls::day;
 pub use records::Answer;

@@ -5,11 +5,14 @@ ghost use Rattle.paper.specs.Limits.{mostPotential};
 ghost use Rattle.paper.specs.Retention.{L, loss as rule8};
 ghost use Rattle.survey.specs.Cells.{mostCapacity};
 ghost use Rattle.recharge.specs.Retention.{table};
+use crate::retention::KNOTS;
+use crate::retention::LAST_KNOT;
+use crate::retention::WHOLE;
 use records::Depth;
 use records::wide;
 
 // L of the paper: the share of the soil's water that is lost, in parts of 1,048,576 × capacity. Nothing is rounded in it.
-fn share_lost(f: &[u32; 2049], capacity: Depth, shortfall: Depth) -> u64
+fn share_lost(f: &[u32; KNOTS], capacity: Depth, shortfall: Depth) -> u64
     requires { ⌜ (0 < capacity .0) × (capacity .0 ≤ mostCapacity) × (shortfall .0 ≤ mostPotential) × (now f ≡ table) ⌝ }
     ensures { λ r. ⌜ r ≡ L (capacity .0) (shortfall .0) ⌝ }
 {
@@ -17,17 +20,17 @@ fn share_lost(f: &[u32; 2049], capacity: Depth, shortfall: Depth) -> u64
     let d = shortfall.0;
     let parts = 256 * d;
     let k = parts / most;
-    if k < 2048 {
-        let i = k as usize;
+    let i = k as usize;
+    if i < LAST_KNOT {
         let here = wide(f[i]);
         let next = wide(f[i + 1]);
-        (1048576 - here) * most + (here - next) * (parts - k * most)
+        (WHOLE - here) * most + (here - next) * (parts - k * most)
     } else {
-        (1048576 - wide(f[2048])) * most
+        (WHOLE - wide(f[LAST_KNOT])) * most
     }
 }
 
-pub(crate) fn loss(f: &[u32; 2049], capacity: Depth, soil: Depth, shortfall: Depth) -> Depth
+pub(crate) fn loss(f: &[u32; KNOTS], capacity: Depth, soil: Depth, shortfall: Depth) -> Depth
     requires { ⌜ (capacity .0 ≤ mostCapacity) × (soil .0 ≤ capacity .0) × (shortfall .0 ≤ mostPotential) × (now f ≡ table) ⌝ }
     ensures { λ r. ⌜ r .0 ≡ rule8 (capacity .0) (soil .0) (shortfall .0) ⌝ }
 {
@@ -37,5 +40,5 @@ pub(crate) fn loss(f: &[u32; 2049], capacity: Depth, soil: Depth, shortfall: Dep
     }
     let water = soil.0;
     // Two divisions round down to the same number as rule 8's one; what the first leaves mostly fits 32 bits, where a processor divides faster.
-    Depth(water * share_lost(f, capacity, shortfall) / 1048576 / most)
+    Depth(water * share_lost(f, capacity, shortfall) / WHOLE / most)
 }

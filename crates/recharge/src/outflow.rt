@@ -9,7 +9,7 @@ use records::Depth;
 
 // The square of the paper's a can pass 64 bits. With k for 100,000(100 - c), b is a + k, and a² / b is b + k² / b - 2k.
 pub(crate) fn outflow(c: CurveNumber, w: Depth) -> Depth
-    requires { ⌜ (1 ≤ c .0) × (c .0 ≤ mostCurveNumber) × (w .0 < waterLimit) ⌝ }
+    requires { ⌜ (c .0 ≤ mostCurveNumber) × (w .0 < waterLimit) ⌝ }
     ensures { λ r. ⌜ r .0 ≡ rule6 (c .0) (w .0) ⌝ }
 {
     let n = c.0;

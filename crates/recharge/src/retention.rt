@@ -2,14 +2,21 @@
 ghost use mathlib.Core.Path.{_≡_};
 ghost use Rattle.recharge.specs.Retention.{table};
 
+// The table's knots, from 0 on, the last of them, and F at the first, of which F is a part at every other.
+pub(crate) const KNOTS: usize = 2049;
+
+pub(crate) const LAST_KNOT: usize = 2048;
+
+pub(crate) const WHOLE: u64 = 1048576;
+
 // The one place that reads the constant: each reading stores it whole, so a call of the library asks once and lends the table down.
-pub(crate) fn retention() -> [u32; 2049]
+pub(crate) fn retention() -> [u32; KNOTS]
     ensures { λ r. ⌜ r ≡ table ⌝ }
 {
     F
 }
 
-const F: [u32; 2049] = [
+const F: [u32; KNOTS] = [
     1048576,
     1044480,
     1040400,

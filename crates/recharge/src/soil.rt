@@ -8,6 +8,7 @@ ghost use Rattle.recharge.specs.Depths.{waterLimit};
 ghost use Rattle.recharge.specs.Retention.{table};
 ghost use Rattle.recharge.specs.Soil.{soilDayOf};
 use crate::loss::loss;
+use crate::retention::KNOTS;
 use records::Depth;
 
 pub struct SoilDay {
@@ -43,7 +44,7 @@ fn wet_day(
 
 // Rule 8: the soil gives up a part of the shortfall.
 fn dry_day(
-    f: &[u32; 2049],
+    f: &[u32; KNOTS],
     capacity: Depth,
     soil: Depth,
     infiltration: Depth,
@@ -65,7 +66,7 @@ fn dry_day(
 }
 
 pub(crate) fn soil_day(
-    f: &[u32; 2049],
+    f: &[u32; KNOTS],
     capacity: Depth,
     largest: Depth,
     soil: Depth,

@@ -1,19 +1,50 @@
--- `calls::day` meets its contract: refused, it hands back what it was given; accepted, the day's passes are handed what the tests left.
+-- `calls::day` meets its contract: refused, it hands back what it was given; accepted, the pass downhill is handed what the tests left and the day's plots.
 use mathlib.Core.List.{[], _∷_}
-use mathlib.Core.Path.{sym, _∙_}
+use mathlib.Core.Path.{_≡_, sym, _∙_}
 use types.Run.{miss}
-use Rattle.paper.specs.Setup.{growing}
+use Rattle.paper.specs.Setup.{Setup, growing}
+use Rattle.paper.specs.State.{State, Day}
 use Rattle.paper.specs.CellDay.{today}
-use Rattle.paper.specs.Day.{verdictOf, lengthsOf}
-use Rattle.paper.proofs.DayLaws.{sound-day}
+use Rattle.paper.specs.Refusals.{accepted}
+use Rattle.paper.specs.Day.{Results, verdictOf, lengthsOf}
+use Rattle.paper.proofs.DayLaws.{SoundDay, sound-day}
 use Rattle.recharge.specs.Answers.{resultsOf}
-use Rattle.records.specs.Calls.{gridOf, setupOf, stateOf, dayIn}
-use Rattle.recharge.proofs.AnswerLaws.{runnable, accepted-answer, refused-answer}
+use Rattle.records.specs.Calls.{gridOf, setupOf, stateOf, dayIn, todayOf}
+use Rattle.recharge.proofs.AnswerLaws.{ready, accepted-answer, refused-answer}
 use Rattle.records.proofs.LimitLaws.{today-fits}
 use Rattle.records.proofs.OutcomeLaws.{accepted-back}
 use borrow.Author.Needs.{needs}
 use Rattle.recharge.proofs.calls.day.Statement.{statement}
 use Rattle.recharge.proofs.calls.day.Tie as tie
+
+-- what was handed over, as the paper's
+abbrev start : tie.After-admit → tie.Start
+start c = c .before .before .before .before .before .before .before .before .before .before .before .before .before .before .before .before .before .before
+
+abbrev setup : tie.Start → Setup
+setup c =
+    setupOf (c .args .setup) (c .args .covers .now) (c .args .direction .now) (c .args .cover .now) (c .args .group .now) (c .args .water .now)
+
+abbrev state : tie.Start → State
+state c = stateOf (c .args .soil .now) (c .args .snow .now) (c .args .memory) (c .args .last)
+
+abbrev results : tie.Start → Results
+results c =
+    resultsOf (c .args .intercepted .now) (c .args .outflow .now) (c .args .evapotranspired .now) (c .args .recharged .now) (c .args .rejected .now)
+
+-- an accepted day passed all the tests, and its weather is the paper's
+passed : (c : tie.After-enum-told) → let b = start (c .before .before) in verdictOf (setup b) (state b) (results b) (dayIn (b .args .day)) ≡ accepted
+unfolding verdictOf lengthsOf
+passed c = accepted-back _ (sym (c .enum-told .given .1) ∙ c .before .before .admit .ensures .outcome)
+
+sound : (c : tie.After-enum-told) → let b = start (c .before .before) in SoundDay (setup b) (state b) (results b) (dayIn (b .args .day))
+sound c = let b = start (c .before .before) in sound-day (setup b) (state b) (results b) (dayIn (b .args .day)) (passed c)
+
+weather : (c : tie.After-today-of) → let b = start (c .before .before .before) in todayOf (c .today-of .result) ≡ today (setup b) (state b .memory) (dayIn (b .args .day))
+unfolding today growing
+weather c =
+    let ok = sound (c .before) in
+    c .today-of .ensures ∙ today-fits (gridOf (start (c .before .before .before) .args .setup)) _ _ (ok .day) (ok .memory)
 
 admit-requires : tie.Need-admit-requires
 admit-requires c κs = search needs
@@ -33,34 +64,26 @@ same-length-2 c = search needs
 returns : tie.Need-returns
 unfolding verdictOf lengthsOf
 returns c =
-    let at-match = c .before in
-    let at-admit = at-match .before in
-    let a = at-admit .before .before .before .before .before .before .before .before .before .before .before .before .before .before .before .before .before .before .args in
-    let s = setupOf (a .setup) (a .covers .now) (a .direction .now) (a .cover .now) (a .group .now) (a .water .now) in
-    let st = stateOf (a .soil .now) (a .snow .now) (a .memory) (a .last) in
-    let results = resultsOf (a .intercepted .now) (a .outflow .now) (a .evapotranspired .now) (a .recharged .now) (a .rejected .now) in
-    let d = dayIn (a .day) in
-    refused-answer s st results d _ _ _ _ (c .refused .ensures .0) (c .refused .ensures .1)
+    let at-admit = c .before .before in
+    let b = start at-admit in
+    let a = b .args in
+    refused-answer (setup b) (state b) (results b) (dayIn (a .day)) _ _ _ _ (c .refused .ensures .0) (c .refused .ensures .1)
     (λ k. stateOf (a .soil .now) (a .snow .now) (c .refused .ensures .2 k) (c .refused .ensures .3 k)) (at-admit .admit .ensures .outcome)
-    (λ e. miss (1 ∷ 2 ∷ 3 ∷ 4 ∷ 5 ∷ 6 ∷ 7 ∷ 8 ∷ 9 ∷ 10 ∷ []) 0 tt (rw e at (at-match .match .keys2)))
+    (λ e. miss (1 ∷ 2 ∷ 3 ∷ 4 ∷ 5 ∷ 6 ∷ 7 ∷ 8 ∷ 9 ∷ 10 ∷ []) 0 tt (rw e at (c .before .match .keys2)))
 
 today-of-requires : tie.Need-today-of-requires
 today-of-requires c κs = search needs
 
-run-requires : tie.Need-run-requires
-unfolding verdictOf lengthsOf today growing
-run-requires c κs =
-    let at-today-of = c .before .before .before .before .before .before .before .before .before .before in
-    let at-enum-told = at-today-of .before in
-    let at-admit = at-enum-told .before .before in
-    let a = at-admit .before .before .before .before .before .before .before .before .before .before .before .before .before .before .before .before .before .before .args in
-    let s = setupOf (a .setup) (a .covers .now) (a .direction .now) (a .cover .now) (a .group .now) (a .water .now) in
-    let st = stateOf (a .soil .now) (a .snow .now) (a .memory) (a .last) in
-    let results = resultsOf (a .intercepted .now) (a .outflow .now) (a .evapotranspired .now) (a .recharged .now) (a .rejected .now) in
-    let d = dayIn (a .day) in
-    let passed = accepted-back _ (sym (at-enum-told .enum-told .given .1) ∙ at-admit .admit .ensures .outcome) in
-    let ok = sound-day s st results d passed in
-    runnable s st results d _ _ _ _ _ ok (at-admit .admit .ensures .mapped passed) _ (at-today-of .today-of .ensures ∙ today-fits (gridOf (a .setup)) _ _ (ok .day) (ok .memory))
+plots-requires : tie.Need-plots-requires
+plots-requires c κs = search needs
+
+downhill-requires : tie.Need-downhill-requires
+unfolding verdictOf lengthsOf
+downhill-requires c κs =
+    let w = c .before .before .before .before .before .before .before .before .before .before .before .before .before in
+    let p = passed (w .before) in
+    let b = start (w .before .before .before) in
+    ready (setup b) (state b) (results b) (dayIn (b .args .day)) _ _ _ _ _ _ _ _ (sound (w .before)) (w .before .before .before .admit .ensures .mapped p) (weather w) (c .before .before .before .before .before .before .before .before .before .before .before .plots .ensures)
 
 next-requires : tie.Need-next-requires
 next-requires c κs = search needs
@@ -87,21 +110,13 @@ same-length-9 : tie.Need-same-length-9
 same-length-9 c = search needs
 
 returns-2 : tie.Need-returns-2
-unfolding verdictOf lengthsOf today growing
+unfolding verdictOf lengthsOf
 returns-2 c =
-    let at-run = c .before .before .before .before .before .before .before .before .before .before .before .before .before .before .before in
-    let at-today-of = at-run .before .before .before .before .before .before .before .before .before .before .before in
-    let at-enum-told = at-today-of .before in
-    let at-admit = at-enum-told .before .before in
-    let a = at-admit .before .before .before .before .before .before .before .before .before .before .before .before .before .before .before .before .before .before .args in
-    let s = setupOf (a .setup) (a .covers .now) (a .direction .now) (a .cover .now) (a .group .now) (a .water .now) in
-    let st = stateOf (a .soil .now) (a .snow .now) (a .memory) (a .last) in
-    let results = resultsOf (a .intercepted .now) (a .outflow .now) (a .evapotranspired .now) (a .recharged .now) (a .rejected .now) in
-    let d = dayIn (a .day) in
-    let passed = accepted-back _ (sym (at-enum-told .enum-told .given .1) ∙ at-admit .admit .ensures .outcome) in
-    let ok = sound-day s st results d passed in
-    accepted-answer s st results d _ _ _ _ _ ok (at-admit .admit .ensures .mapped passed) passed _ (at-enum-told .enum-told .given .1) _ (c .next .ensures)
-    _ (at-today-of .today-of .ensures ∙ today-fits (gridOf (a .setup)) _ _ (ok .day) (ok .memory)) _ _ _ _ _ _ _ _ (at-run .run .ensures)
+    let w = c .before .before .before .before .before .before .before .before .before .before .before .before .before .before .before .before .before .before .before .before .before .before .before .before .before .before .before .before .before in
+    let p = passed (w .before) in
+    let b = start (w .before .before .before) in
+    accepted-answer (setup b) (state b) (results b) (dayIn (b .args .day)) _ _ _ _ _ _ _ _ (sound (w .before)) (w .before .before .before .admit .ensures .mapped p) (weather w) (c .before .before .before .before .before .before .before .before .before .before .before .before .before .before .before .before .before .before .before .before .before .before .before .before .before .before .before .plots .ensures)
+    p _ (w .before .enum-told .given .1) _ (c .next .ensures) _ _ (c .before .before .before .before .before .before .before .before .before .before .before .before .before .before .before .downhill .ensures)
 
 pub day-spec : {M : Type 1} → statement M
 day-spec =
@@ -114,7 +129,8 @@ day-spec =
     same-length-2
     returns
     today-of-requires
-    run-requires
+    plots-requires
+    downhill-requires
     next-requires
     same-length-3
     same-length-4

@@ -1,51 +1,84 @@
--- `cell_day::cell_day` meets its contract: what the day brings to the plot and what the soil does are the paper's figures, on open water too.
+-- `cell_day::cell_day` meets its contract: its steps are those of the paper's rules, and every figure fits 32 bits.
+use mathlib.Core.Path.{refl}
+use Prim.Native.Nat.{_+_, _-_, _<_}
 use native.Mathlib.Omega.{arith}
-use borrow.Author.Needs.{needs}
 use Rattle.records.specs.Calls.{todayOf}
-use Rattle.recharge.proofs.FigureLaws.{plot-figures}
+use Rattle.recharge.specs.Depths.{gatheredLimit}
+use Rattle.recharge.specs.Plots.{plotOf}
+use Rattle.recharge.specs.Soil.{soilDayOf}
+use Rattle.recharge.specs.CellDay.{ownBy, Fit32}
+use Rattle.recharge.proofs.FigureLaws.{stepped, steps-are, steps-fit}
+use borrow.Author.Needs.{needs}
 use Rattle.recharge.proofs.cell_day.cell_day.Statement.{statement}
 use Rattle.recharge.proofs.cell_day.cell_day.Tie as tie
 
-add-t22 : tie.Need-add-t22
-add-t22 c = search needs
+wet : (c : tie.After-struct-known5) → let a = c .before .before .before .before .before .before .args in a .plot .rain .0 + c .before .before .before .melt .result .0 + a .arrived .0 < gatheredLimit
+unfolding ownBy
+wet c = omega (arith, c .before .before .before .melt .ensures, c .before .before .before .before .before .before .pre .wet)
 
-melt-requires : tie.Need-melt-requires
-melt-requires c κs = search needs
+fits : (c : tie.After-soil-day)
+    → let a = c .before .before .before .before .before .before .before .before .before .args in
+    Fit32 (stepped (plotOf (a .plot)) (c .before .before .passed .result .0) (soilDayOf (c .soil-day .result)) (a .snow .0 + a .plot .snowfall .0 - c .before .before .before .before .before .before .melt .result .0))
+fits c = steps-fit _ _ _ _ _ _ _ _ _ _ _ (c .before .before .before .before .before .before .melt .ensures) (c .before .before .passed .ensures) (c .before .beyond .ensures) (c .soil-day .ensures) refl (c .before .before .before .before .before .before .before .before .before .pre)
 
-beyond-requires : tie.Need-beyond-requires
-beyond-requires c κs = search needs
+add-t13-2 : tie.Need-add-t13-2
+unfolding ownBy
+add-t13-2 c = omega (arith, c .before .before .melt .ensures, c .before .before .before .before .before .pre .wet)
 
-beyond-requires-2 : tie.Need-beyond-requires-2
-beyond-requires-2 c κs = search needs
+add-t14 : tie.Need-add-t14
+add-t14 c = omega (arith, wet c)
+
+passed-requires : tie.Need-passed-requires
+passed-requires c κs = (c .before .before .before .before .before .before .pre .plot .curve, omega (arith, wet c))
 
 soil-day-requires : tie.Need-soil-day-requires
 soil-day-requires c κs =
-    let p = c .before .before .before .before .before .before .before .before .before .before .pre in
-    (p .deep, p .held, omega (arith, c .beyond2 .ensures, p .wet), p .potential, p .retained)
+    let p = c .before .before .before .before .before .before .before .before .pre in
+    (p .plot .capacity, p .held, omega (arith, c .beyond .ensures, wet (c .before .before)), p .potential, p .retained)
 
-gone-from-requires : tie.Need-gone-from-requires
-gone-from-requires c κs = search needs
+cast-t16 : tie.Need-cast-t16
+cast-t16 c = omega (arith, fits (c .before) .intercepted)
+
+cast-t17 : tie.Need-cast-t17
+cast-t17 c = omega (arith, fits (c .before .before) .outflow)
+
+cast-t18 : tie.Need-cast-t18
+cast-t18 c = omega (arith, fits (c .before .before .before) .evapotranspired)
+
+cast-t19 : tie.Need-cast-t19
+cast-t19 c = omega (arith, fits (c .before .before .before .before) .recharged)
+
+cast-t20 : tie.Need-cast-t20
+cast-t20 c = omega (arith, fits (c .before .before .before .before .before) .rejected)
+
+cast-t21 : tie.Need-cast-t21
+cast-t21 c = omega (arith, fits (c .before .before .before .before .before .before) .soil)
+
+cast-t22 : tie.Need-cast-t22
+cast-t22 c = omega (arith, c .before .beyond2 .ensures, fits (c .before .before .before .before .before .before .before .before) .snow)
 
 returns : tie.Need-returns
 returns c =
-    let at-soil-day = c .before .before .before .before .before in
-    let at-beyond = at-soil-day .before .before in
-    let at-melt = at-beyond .before in
-    let start = at-melt .before .before .before .before .before .before .before .before in (
-      λ cell st lies passed.
-          plot-figures cell (todayOf (start .args .today)) _ _ _ _ _ _ _ _ _ _ _ _ (st .held) passed (st .snowfall) (at-melt .melt .ensures) (at-beyond .beyond .ensures) (st .most) (st .largest)
-          (at-soil-day .before .beyond2 .ensures) (at-soil-day .soil-day .ensures) (start .pre .held) lies,
-      c .gone-from .ensures,
-    )
+    let d = c .before .before .before .before .before .before .before .before in
+    steps-are (todayOf (d .before .before .before .before .before .before .before .before .before .args .today)) _ _ _ _ _ _ _ _ _ _ (d .before .before .before .before .before .before .melt .ensures) (d .before .before .passed .ensures) (d .before .beyond .ensures) (d .soil-day .ensures) (c .before .beyond2 .ensures)
 
 pub cell-day-spec : {M : Type 1} → statement M
 cell-day-spec =
     tie.close
     (tie.spec
-    add-t22
-    melt-requires
-    beyond-requires
-    beyond-requires-2
+    (λ c. search needs)
+    (λ c κs. search needs)
+    add-t13-2
+    add-t14
+    passed-requires
+    (λ c κs. search needs)
     soil-day-requires
-    gone-from-requires
+    cast-t16
+    cast-t17
+    cast-t18
+    cast-t19
+    cast-t20
+    cast-t21
+    (λ c κs. search needs)
+    cast-t22
     returns)

@@ -1,7 +1,7 @@
 -- `outflow::outflow` meets its contract: the paper's law `outflow-64` is the code's formula, and with c ≤ 100 and w below the limit nothing in it passes 64 bits.
 use mathlib.Core.Path.{sym}
-use Prim.Native.Nat.{ℕ, _-_, _*_, _/_, _≤_}
-use native.Mathlib.Nat.{le-trans, mul-le-mul, div-le-self}
+use Prim.Native.Nat.{ℕ, zero, suc, _-_, _*_, _/_, _≤_, _<_, zero-le, suc-le-suc}
+use native.Mathlib.Nat.{le-trans, le-of-eq, not-suc-le-zero, mul-le-mul, div-le-self, zero-mul}
 use native.Mathlib.Omega.{arith}
 use borrow.Author.Needs.{needs}
 use Rattle.paper.specs.Outflow.{spread}
@@ -15,11 +15,16 @@ square-most c = mul-le-mul {n₂ = 10000000} {m₂ = 10000000} (omega arith) (om
 quotient-most : (c b : ℕ) → 100000 * (100 - c) * (100000 * (100 - c)) / b ≤ 100000000000000
 quotient-most c b = le-trans (div-le-self _ b) (square-most c)
 
+-- past the first test the curve number is not 0
+above-none : (c x : ℕ) → 2000000 < c * x → 1 ≤ c
+above-none zero x h = absurd (not-suc-le-zero (le-trans h (le-of-eq (zero-mul x))))
+above-none (suc c) x h = suc-le-suc zero-le
+
 add-if1 : tie.Need-add-if1
 add-if1 c = search needs
 
 mul-if1 : tie.Need-mul-if1
-mul-if1 c = omega (arith, mul-le-mul (c .pre .1) (c .pre .2))
+mul-if1 c = omega (arith, mul-le-mul (c .pre .0) (c .pre .1))
 
 returns : tie.Need-returns
 returns c = sym (outflow-none _ _ (c .if1 .taken))
@@ -31,10 +36,10 @@ mul-k : tie.Need-mul-k
 mul-k c = search needs
 
 mul-b : tie.Need-mul-b
-mul-b c = omega (arith, mul-le-mul (c .before .pre .1) (c .before .pre .2))
+mul-b c = omega (arith, mul-le-mul (c .before .pre .0) (c .before .pre .1))
 
 add-b : tie.Need-add-b
-add-b c = omega (arith, mul-le-mul (c .before .pre .1) (c .before .pre .2))
+add-b c = omega (arith, mul-le-mul (c .before .pre .0) (c .before .pre .1))
 
 mul-b-2 : tie.Need-mul-b-2
 mul-b-2 c = search needs
@@ -52,21 +57,21 @@ add-t7 : tie.Need-add-t7
 unfolding spread
 add-t7 c =
     let s = c .before in
-    omega (arith, mul-le-mul (s .pre .1) (s .pre .2), quotient-most (s .args .c .0) (spread (s .args .c .0) (s .args .w .0)))
+    omega (arith, mul-le-mul (s .pre .0) (s .pre .1), quotient-most (s .args .c .0) (spread (s .args .c .0) (s .args .w .0)))
 
 mul-t11 : tie.Need-mul-t11
 mul-t11 c = search needs
 
 sub-t12 : tie.Need-sub-t12
 unfolding spread
-sub-t12 c = outflow-64-room (c .before .args .c .0) (c .before .args .w .0) (c .before .pre .1) (c .if1 .left)
+sub-t12 c = outflow-64-room (c .before .args .c .0) (c .before .args .w .0) (c .before .pre .0) (c .if1 .left)
 
 div-t13 : tie.Need-div-t13
-div-t13 c = search needs
+div-t13 c = omega (arith, above-none _ _ (c .if1 .left))
 
 returns-2 : tie.Need-returns-2
 unfolding spread
-returns-2 c = sym (outflow-64 (c .before .args .c .0) (c .before .args .w .0) (c .before .pre .0) (c .before .pre .1) (c .if1 .left))
+returns-2 c = sym (outflow-64 (c .before .args .c .0) (c .before .args .w .0) (above-none _ _ (c .if1 .left)) (c .before .pre .0) (c .if1 .left))
 
 pub outflow-spec : {M : Type 1} → statement M
 outflow-spec =

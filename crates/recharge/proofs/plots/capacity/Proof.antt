@@ -1,0 +1,21 @@
+-- `plots::capacity` meets its contract: two numbers of 32 bits have a product of 64.
+use Prim.Native.Nat.{_≤_}
+use native.Mathlib.Nat.{mul-le-mul}
+use native.Mathlib.Omega.{arith}
+use borrow.Author.Needs.{needs}
+use Rattle.recharge.proofs.plots.capacity.Statement.{statement}
+use Rattle.recharge.proofs.plots.capacity.Tie as tie
+
+mul-t5 : tie.Need-mul-t5
+mul-t5 c =
+    let a = c .args in
+    let wet : a .water ≤ 4294967295 = omega arith in
+    let deep : a .roots ≤ 4294967295 = omega arith in
+    omega (arith, mul-le-mul wet deep)
+
+pub capacity-spec : {M : Type 1} → statement M
+capacity-spec =
+    tie.close
+    (tie.spec
+    mul-t5
+    (λ c. search needs))

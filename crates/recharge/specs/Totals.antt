@@ -1,0 +1,58 @@
+-- The totals of a day: the code's as the paper's, with one cell more, and summed over cells.
+use mathlib.Core.Bool.{Bool}
+use Prim.Native.Nat.{ℕ, _+_, _≤_}
+use Rattle.theory.specs.Sums.{sum, given}
+use Rattle.paper.specs.CellDay.{Figures}
+use Rattle.paper.specs.Day as paper
+use Rattle.records.specs.declared.answers.Totals.{Totals}
+
+abbrev pub totalsIn : Totals → paper.Totals
+totalsIn r =
+    record {
+      gross = r .gross .0;
+      intercepted = r .intercepted .0;
+      evapotranspired = r .evapotranspired .0;
+      recharged = r .recharged .0;
+      rejected = r .rejected .0;
+      gone = r .gone .0;
+      stored = r .stored .0;
+    }
+
+-- totals with one cell more
+unfoldable pub withCell : paper.Totals → ℕ → Figures → ℕ → paper.Totals
+withCell t gross r gone =
+    record {
+      gross = t .gross + gross;
+      intercepted = t .intercepted + r .intercepted;
+      evapotranspired = t .evapotranspired + r .evapotranspired;
+      recharged = t .recharged + r .recharged;
+      rejected = t .rejected + r .rejected;
+      gone = t .gone + gone;
+      stored = t .stored + (r .soil + r .snow);
+    }
+
+-- sums over n cells
+unfoldable pub totalsBy : ℕ → ℕ → (ℕ → Figures) → (ℕ → Bool) → paper.Totals
+totalsBy n gross figure gone? =
+    record {
+      gross = sum n (λ i. gross);
+      intercepted = sum n (λ i. figure i .intercepted);
+      evapotranspired = sum n (λ i. figure i .evapotranspired);
+      recharged = sum n (λ i. figure i .recharged);
+      rejected = sum n (λ i. figure i .rejected);
+      gone = sum n (λ i. given (gone? i) (figure i .outflow));
+      stored = sum n (λ i. figure i .soil + figure i .snow);
+    }
+
+-- far above the totals of the largest grid, and far below 64 bits
+abbrev pub roomy : ℕ
+roomy = 1000000000000000000
+
+pub record Room (t : paper.Totals) : Type 0 where
+  pub gross : t .gross ≤ roomy
+  pub intercepted : t .intercepted ≤ roomy
+  pub evapotranspired : t .evapotranspired ≤ roomy
+  pub recharged : t .recharged ≤ roomy
+  pub rejected : t .rejected ≤ roomy
+  pub gone : t .gone ≤ roomy
+  pub stored : t .stored ≤ roomy
