@@ -1,7 +1,17 @@
 // The cover table: its test, its index by code, and what it says of a slot, which is one cover with one soil group.
+mod plots;
 mod slots;
 mod table;
 
+pub use plots::CURVE_NUMBER;
+pub use plots::INTERCEPTED;
+pub use plots::LARGEST_RECHARGE;
+pub use plots::PLOT_NUMBERS;
+pub use plots::PLOT_ROOM;
+pub use plots::RAIN;
+pub use plots::ROOT_DEPTH;
+pub use plots::SNOWFALL;
+pub use plots::lay_plots;
 pub use slots::MOST_SLOTS;
 pub use slots::is_open;
 pub use slots::largest_recharge;

@@ -33,7 +33,7 @@ pub fn small_place(x: u8) -> usize
 }
 
 // Number k of the slot's entry.
-fn number_at(covers: &[u32], slot: usize, k: usize) -> u32
+pub(crate) fn number_at(covers: &[u32], slot: usize, k: usize) -> u32
     requires { ⌜ k < 16 ⌝ }
     ensures { λ r. ⌜ r ≡ numberOf (now (covers .entry)) (slot / 4) k ⌝ }
 {

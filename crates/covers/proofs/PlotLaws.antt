@@ -4,54 +4,41 @@ use mathlib.Core.Path.{_≡_, refl, ap, sym, _∙_}
 use mathlib.Core.Bool.{Bool, true, false, cond, not}
 use mathlib.Core.List.{List, [], _∷_}
 use Prim.Native.Nat.{ℕ, _+_, _-_, _*_, _/_, _%_, _≤_, _<_, min, zero-le}
-use native.Mathlib.Nat.{le-refl, le-trans, div-zero, div-lt-iff-lt-mul, mul-zero}
+use native.Mathlib.Nat.{mul-zero}
 use native.Mathlib.Omega.{arith}
-use lib.Dec.{eqb}
+use lib.Dec.{eqb, leb}
 use lib.ListN.{length, getD, set}
-use borrow.Author.Tests.{le-leb, eqb-true, eqb-false}
+use borrow.Author.Tests.{le-leb, leb-true}
 use Rattle.theory.specs.Lists.{madeOver}
 use Rattle.theory.specs.Sums.{given}
-use Rattle.theory.proofs.Cases.{byCases, cond-true, cond-false}
-use Rattle.theory.proofs.ListLaws.{wrote}
-use Rattle.theory.proofs.SumLaws.{given-most}
-use Rattle.paper.specs.Limits.{mostGross}
+use Rattle.theory.proofs.Cases.{byCases, and-left, and-right, cond-true, cond-false}
+use Rattle.theory.proofs.ListLaws.{wrote, over-at}
+use Rattle.paper.specs.Limits.{within, mostGross, leastCurveNumber, mostCurveNumber}
 use Rattle.paper.specs.Covers.{entries, numberOf, openOf, curveNumberOf, largestOf, growingOf, dormantOf, rootDepthOf}
 use Rattle.paper.specs.Interception.{intercepted, net}
-use Rattle.paper.specs.CurveNumber.{Condition, I, II, III, nearest, curveNumber}
-use Rattle.paper.specs.Setup.{Cell}
+use Rattle.paper.specs.CurveNumber.{Condition, curveNumber}
 use Rattle.paper.specs.State.{mostSoilOf}
 use Rattle.paper.specs.CellDay.{Today, figureOf, interceptedOf, netOf, rainOf}
-use Rattle.survey.specs.Cells.{cellFrom}
-use Rattle.survey.specs.Grounds.{rootAt}
-use Rattle.survey.proofs.WayArrays.{over-at}
-use Rattle.recharge.specs.Depths.{past32}
-use Rattle.recharge.specs.Plots.{heldOf, wetOf, fallOf, curveOf, drainOf, sharedBy, plotNumber, plotsOf, Plot, plotFor, plotAt, plotIn}
+use Rattle.paper.proofs.CurveNumberLaws.{curve-number-limits}
+use Rattle.weather.specs.Conditions.{curveNumberIn}
+use Rattle.weather.proofs.TodayLaws.{table-number}
+use Rattle.covers.specs.Slots.{openAt, groupNumberAt, cellFrom}
+use Rattle.covers.specs.Plots.{heldOf, wetOf, fallOf, curveOf, curveIn, drainOf, sharedBy, plotNumber, plotsOf, Plot, plotFor, plotAt, plotIn}
 
--- rule 5's quotient of any number of 32 bits has 32 bits again
-nearest-small : (p q : ℕ) → 2 * p < (2 * past32 - 1) * q → nearest p q < past32
-unfolding nearest
-nearest-small p q h =
-    let some : 0 < 2 * q = omega arith in
-    div-lt-iff-lt-mul some .1 (omega arith)
-
-pub nearest-none : (p : ℕ) → nearest p 0 ≡ 0
-unfolding nearest
-nearest-none p = div-zero (2 * p + 0)
-
-pub curve-small : (condition : Condition) (N : ℕ) → N < past32 → curveNumber condition N < past32
-unfolding curveNumber
-curve-small I N h = go (228100 - 1281 * N) refl
-  where
-    go : (q : ℕ) → 228100 - 1281 * N ≡ q → nearest (100000 * N) q < past32
-    go q e = byCases (eqb q 0) (λ z. rw (eqb-true q 0 z, nearest-none (100000 * N)) (omega arith))
-        (λ z. nearest-small (100000 * N) q (omega (arith, eqb-false q 0 z)))
-curve-small II N h = h
-curve-small III N h = nearest-small (100000 * N) (42700 + 573 * N) (omega arith)
+-- a number of 32 bits is one again in any condition
+pub curve-small : (condition : Condition) (N : ℕ) → N < 4294967296 → curveNumberIn condition N < 4294967296
+unfolding curveNumberIn
+curve-small condition N h =
+    byCases (within leastCurveNumber mostCurveNumber N)
+    (λ e. rw (cond-true (within leastCurveNumber mostCurveNumber N) e)
+    (let limits = curve-number-limits condition N (leb-true _ _ (and-left _ _ e)) (leb-true _ _ (and-right (leb leastCurveNumber N) _ e)) in
+    omega (arith, limits .most)))
+    (λ e. rw (cond-false (within leastCurveNumber mostCurveNumber N) e) h)
 
 -- a slot's numbers from the code's steps
 module _ (t : Today) (covers : List ℕ) (slot : ℕ) where
   pub on-water : eqb (openOf covers (slot / 4)) 1 ≡ true → (0 ∷ t .gross ∷ 0 ∷ 0 ∷ 0 ∷ 0 ∷ []) ≡ sharedBy t covers slot
-  unfolding sharedBy heldOf wetOf fallOf curveOf rootAt drainOf cellFrom
+  unfolding sharedBy heldOf wetOf fallOf curveIn groupNumberAt drainOf cellFrom
   on-water wet = rw wet
 
   season : (growing : Bool) → numberOf covers (slot / 4) (cond growing 10 11) ≡ cond growing (growingOf covers (slot / 4)) (dormantOf covers (slot / 4))
@@ -61,10 +48,10 @@ module _ (t : Today) (covers : List ℕ) (slot : ℕ) where
   pub on-land : (figure held rest rain fall table curve root largest : ℕ) → eqb (openOf covers (slot / 4)) 1 ≡ false
       → figure ≡ numberOf covers (slot / 4) (cond (t .growing?) 10 11) → held ≡ min (t .gross) figure → rest ≡ t .gross - held
       → rain ≡ given (not (t .snows?)) rest → fall ≡ given (t .snows?) rest
-      → table ≡ curveNumberOf covers (slot / 4) (slot % 4 + 1) → curve ≡ curveNumber (t .condition) table
+      → table ≡ curveNumberOf covers (slot / 4) (slot % 4 + 1) → curve ≡ curveNumberIn (t .condition) table
       → root ≡ rootDepthOf covers (slot / 4) (slot % 4 + 1) → largest ≡ largestOf covers (slot / 4) (slot % 4 + 1)
       → (held ∷ rain ∷ fall ∷ curve ∷ root ∷ largest ∷ []) ≡ sharedBy t covers slot
-  unfolding sharedBy heldOf wetOf fallOf curveOf rootAt drainOf cellFrom interceptedOf rainOf netOf figureOf net intercepted
+  unfolding sharedBy heldOf wetOf fallOf curveIn groupNumberAt drainOf cellFrom interceptedOf rainOf netOf figureOf net intercepted
   on-land figure held rest rain fall table curve root largest dry ef eh er en el et ec eo eg =
       rw (dry, en, el, ec, et, eo, eg, er, eh, ef, season (t .growing?))
 
@@ -115,14 +102,18 @@ module _ (t : Today) (covers before plots : List ℕ) (few : t .gross ≤ mostGr
   times-root true water d = mul-zero water
   times-root Bool.false water d = refl
 
-  pub plot-is : (water way : ℕ) → plotIn plots slot water ≡ plotFor t (cellFrom covers slot water way)
-  unfolding plotIn plotFor sharedBy heldOf wetOf fallOf curveOf rootAt drainOf cellFrom interceptedOf rainOf netOf figureOf mostSoilOf
-  plot-is water way =
+  -- the table's N
+  abbrev N : ℕ
+  N = curveNumberOf covers (slot / 4) (slot % 4 + 1)
+
+  pub plot-is : (water way : ℕ) → leastCurveNumber ≤ N → N ≤ mostCurveNumber → plotIn plots slot water ≡ plotFor t (cellFrom covers slot water way)
+  unfolding plotIn plotFor sharedBy heldOf wetOf fallOf curveOf curveIn groupNumberAt drainOf cellFrom interceptedOf rainOf netOf figureOf mostSoilOf
+  plot-is water way low high =
       λ k. record {
         intercepted = at-place 0 (omega arith) k;
         rain = at-place 1 (omega arith) k;
         snowfall = at-place 2 (omega arith) k;
-        curve = at-place 3 (omega arith) k;
+        curve = (at-place 3 (omega arith) ∙ ap (cond (openAt covers slot) 0) (table-number (t .condition) N low high)) k;
         capacity = (ap (λ (x : ℕ). water * x) (at-place 4 (omega arith)) ∙ times-root (eqb (openOf covers (slot / 4)) 1) water _) k;
         largest = at-place 5 (omega arith) k;
       }

@@ -3,8 +3,8 @@ use mathlib.Core.Path.{_≡_, ap, sym}
 use mathlib.Core.Bool.{Bool}
 use Rattle.theory.specs.Sums.{given}
 use borrow.Author.Needs.{needs}
-use Rattle.recharge.proofs.plots.falling.Statement.{statement}
-use Rattle.recharge.proofs.plots.falling.Tie as tie
+use Rattle.covers.proofs.plots.falling.Statement.{statement}
+use Rattle.covers.proofs.plots.falling.Tie as tie
 
 returns : tie.Need-returns
 unfolding given

@@ -7,18 +7,18 @@ use lib.ListN.{length, length-set}
 use Rattle.theory.specs.Lists.{madeOver}
 use Rattle.theory.proofs.ListLaws.{over-none, over-length}
 use Rattle.paper.specs.Covers.{entries}
-use Rattle.records.specs.Calls.{todayOf}
-use Rattle.recharge.specs.Plots.{plotNumber}
-use Rattle.recharge.proofs.PlotLaws.{laid}
+use Rattle.weather.specs.Today.{todayAs}
+use Rattle.covers.specs.Plots.{plotNumber}
+use Rattle.covers.proofs.PlotLaws.{laid}
 use borrow.Author.Needs.{needs}
-use Rattle.recharge.proofs.plots.lay.Statement.{statement}
-use Rattle.recharge.proofs.plots.lay.Tie as tie
+use Rattle.covers.proofs.plots.lay.Statement.{statement}
+use Rattle.covers.proofs.plots.lay.Tie as tie
 
 abbrev Inv-loop : tie.InvT-loop
 Inv-loop today covers plots₀ slots slot₀ plots slot =
     (slots ≡ min (length plots₀ / 6) (4 * entries covers))
     × (slot ≤ slots)
-    × (plots ≡ madeOver (6 * slot) (plotNumber (todayOf today) covers) plots₀)
+    × (plots ≡ madeOver (6 * slot) (plotNumber (todayAs today) covers) plots₀)
 
 abbrev μ-loop : tie.MeasureT-loop
 μ-loop today covers plots₀ slots slot₀ plots slot = slots - slot
@@ -26,7 +26,7 @@ abbrev μ-loop : tie.MeasureT-loop
 -- what is laid keeps the length
 same : (c : tie.At-loop Inv-loop μ-loop) → length (c .loop .plots) ≡ length (c .before .before .before .before .args .plots .now)
 same c = let a = c .before .before .before .before .args in
-    ap length (c .loop .inv .2) ∙ over-length (6 * c .loop .slot) (plotNumber (todayOf (a .today)) (a .covers .now)) (a .plots .now) (omega arith)
+    ap length (c .loop .inv .2) ∙ over-length (6 * c .loop .slot) (plotNumber (todayAs (a .today)) (a .covers .now)) (a .plots .now) (omega arith)
 
 -- room for the slot's six numbers
 room : (c : tie.In-loop Inv-loop μ-loop) → 6 * c .before .loop .slot + 6 ≤ length (c .before .loop .plots)
@@ -57,7 +57,7 @@ slice-write-plots-6 c = simp length-set (omega (arith, room (c .before)))
 loop-again : tie.Need-loop-again Inv-loop μ-loop
 loop-again c =
     let inv = c .before .before .loop .inv in
-    (inv .0, search needs, laid (todayOf (c .before .before .before .before .before .before .args .today)) _ _ _ _ _ _ _ _ _ _ (c .slot-day .ensures) (omega arith) (inv .2))
+    (inv .0, search needs, laid (todayAs (c .before .before .before .before .before .before .args .today)) _ _ _ _ _ _ _ _ _ _ (c .slot-day .ensures) (omega arith) (inv .2))
 
 same-length : tie.Need-same-length Inv-loop μ-loop
 same-length c = same (c .before)
