@@ -36,14 +36,15 @@ use Rattle.records.specs.declared.answers.Totals.{Totals}
 use Rattle.records.proofs.LimitLaws.{DayKnown, day-known}
 use Rattle.records.proofs.OutcomeLaws.{verdict-back}
 use Rattle.survey.proofs.CellLaws.{slot-limit, cell-is}
-use Rattle.survey.proofs.CoverLaws.{count-limit}
+use Rattle.covers.proofs.TableLaws.{count-limit}
 use Rattle.survey.proofs.MapLaws.{slot-at}
-use Rattle.survey.proofs.WayArrays.{over-at, ways-next}
-use Rattle.recharge.specs.Plots.{plotsOf, plotFor}
+use Rattle.survey.proofs.CountLaws.{ways-next}
+use Rattle.covers.specs.Plots.{plotsOf, plotFor}
 use Rattle.recharge.specs.CellDay.{goneBy}
-use Rattle.recharge.specs.Totals.{totalsIn, totalsBy}
+use Rattle.records.specs.Answers.{totalsAs}
+use Rattle.recharge.specs.Totals.{totalsBy}
 use Rattle.recharge.specs.Downhill as pass
-use Rattle.recharge.proofs.PlotLaws.{plot-is}
+use Rattle.covers.proofs.PlotLaws.{plot-is}
 use Rattle.recharge.proofs.FigureLaws.{plot-fits, store-plot, own-plot, passed-plot, day-plot}
 
 module _ (s : Setup) (st : State) (r : paper.Results) (d : Day) (before ways₀ slots ways order : List ℕ) (t : Today) (blank plots : List ℕ)
@@ -156,7 +157,6 @@ module _ (s : Setup) (st : State) (r : paper.Results) (d : Day) (before ways₀ 
               recharged = lent .recharges ∙ sym n;
               rejected = lent .rejections ∙ sym n;
             };
-        slotted = λ i h. let k : i < cells s = rw n at h in rw (slot-here i k) (slot-small i k);
         plotted =
             λ i h. let k : i < cells s = rw n at h in
             rw (plot-here i k) (plot-fits t (cell s i) few (sound-cell s chart i k .capacity) (curve i k));
@@ -247,7 +247,7 @@ module _ (s : Setup) (st : State) (r : paper.Results) (d : Day) (before ways₀ 
               recharged = after .recharged;
               rejected = after .rejected;
             };
-        totals = totalsIn totals;
+        totals = totalsAs totals;
         state = record { soil = after .soil; snow = after .snow; memory = memory; last = serial (d .serial) };
       }
       ≡ paper.dayOf s st r d

@@ -19,12 +19,13 @@ use Rattle.paper.specs.Flow.{water}
 use Rattle.paper.proofs.FlowLaws.{water-reached, water-most}
 use Rattle.paper.proofs.ArrivalLaws.{Arrived, arrived-none, arrived-reached, arrived-fits, arrived-next}
 use Rattle.survey.specs.Routes.{nextIn}
-use Rattle.survey.proofs.QueueLaws.{way-next}
+use Rattle.survey.proofs.CountLaws.{way-next}
 use Rattle.recharge.specs.Depths.{gatheredLimit, past32}
 use Rattle.recharge.specs.Retention.{table}
-use Rattle.recharge.specs.Plots.{Plot, plotIn}
+use Rattle.covers.specs.Plots.{Plot, plotIn}
 use Rattle.recharge.specs.CellDay.{figuresWith, figuresBy, CellReady, Fit32}
-use Rattle.recharge.specs.Totals.{totalsIn, withCell, totalsBy, Room}
+use Rattle.records.specs.Answers.{totalsAs}
+use Rattle.recharge.specs.Totals.{withCell, totalsBy, Room}
 use Rattle.recharge.specs.Downhill.{plotOfCell, passedAt, ownAt, inflowAt, figuresAt, dayAt, LentAt, goneAt, Slices, Sized, Ready, Ran}
 use Rattle.records.specs.declared.answers.Totals.{Totals}
 use Rattle.recharge.proofs.FigureLaws.{passed-most, own-most, figures-fit}
@@ -158,7 +159,7 @@ module _
         (sums-room (t .gross) _ _ u (le-trans (p .within) (all .pointing .most)) (all .gross)
         (λ k l. fits all (o all .who k) (o all .placed k (lt-of-lt-of-le l (p .within)))))
 
-    pub pass-end : (r : Totals) → totalsIn r ≡ totals → length available ≤ u → Ran t plots slots ways available s₀ r s
+    pub pass-end : (r : Totals) → totalsAs r ≡ totals → length available ≤ u → Ran t plots slots ways available s₀ r s
     pass-end r e h =
         let last : u ≡ length available = omega (arith, p .within) in
         record {
@@ -199,7 +200,6 @@ module _
       pass-lent =
           record {
             small = pass-small;
-            slotted = all .slotted cell pass-inside;
             waters = pass-inside;
             soils = rw (pass-sized .soil) pass-inside;
             snows = rw (pass-sized .snow) pass-inside;

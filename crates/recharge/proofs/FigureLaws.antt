@@ -20,9 +20,9 @@ use Rattle.paper.specs.Soil.{SoilDay, soilDay}
 use Rattle.paper.specs.CellDay.{Today, Figures, interceptedOf, netOf, rainOf, storeOf, meltOf, ownOf, passedOf, groundOf, openDay, landDay, cellDay}
 use Rattle.paper.proofs.OutflowLaws.{outflow-most}
 use Rattle.paper.proofs.SoilLaws.{soil-account}
-use Rattle.survey.specs.Cells.{mostCapacity}
+use Rattle.covers.specs.Slots.{mostCapacity}
 use Rattle.recharge.specs.Depths.{gatheredLimit}
-use Rattle.recharge.specs.Plots.{heldOf, wetOf, fallOf, curveOf, drainOf, Plot, plotFor}
+use Rattle.covers.specs.Plots.{heldOf, wetOf, fallOf, curveOf, drainOf, Plot, plotFor}
 use Rattle.recharge.specs.CellDay.{openWater, closedWay, ownBy, passedBy, groundBy, figuresWith, figuresBy, PlotFits, CellReady, Fit32}
 
 pub passed-most : (p : Plot) (way w : ℕ) → p .curve ≤ mostCurveNumber → passedBy p way w ≤ w

@@ -1,6 +1,5 @@
 pub mod LossRoom
 pub mod RetentionTable
-pub mod PlotLaws
 pub mod FigureLaws
 pub mod SliceLaws
 pub mod TotalsLaws

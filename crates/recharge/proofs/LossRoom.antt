@@ -7,7 +7,7 @@ use native.Mathlib.Omega.{arith}
 use Rattle.paper.specs.Limits.{mostPotential}
 use Rattle.paper.specs.Retention.{F, L}
 use Rattle.paper.proofs.RetentionLaws.{F-most, F-falls, L-inside, L-past, L-most}
-use Rattle.survey.specs.Cells.{mostCapacity}
+use Rattle.covers.specs.Slots.{mostCapacity}
 
 -- between the knots, with x for F(k) and y for F(k + 1)
 pub record Inside (C d x y : ℕ) : Type 0 where

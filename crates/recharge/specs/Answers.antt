@@ -3,7 +3,7 @@ use mathlib.Core.List.{List}
 use Prim.Native.Nat.{ℕ}
 use Rattle.paper.specs.Day as paper
 use Rattle.records.specs.Calls.{stateOf, verdictAs}
-use Rattle.recharge.specs.Totals.{totalsIn}
+use Rattle.records.specs.Answers.{totalsAs}
 use Rattle.records.specs.declared.answers.Answer.{Answer}
 
 abbrev pub resultsOf : List ℕ → List ℕ → List ℕ → List ℕ → List ℕ → paper.Results
@@ -21,6 +21,6 @@ answered a soil snow intercepted outflow evapotranspired recharged rejected =
     record {
       verdict = verdictAs (a .outcome);
       results = resultsOf intercepted outflow evapotranspired recharged rejected;
-      totals = totalsIn (a .totals);
+      totals = totalsAs (a .totals);
       state = stateOf soil snow (a .memory) (a .last);
     }

@@ -10,14 +10,14 @@ use Rattle.paper.specs.Snow.{melt}
 use Rattle.paper.specs.Outflow.{outflow}
 use Rattle.paper.specs.Soil.{SoilDay, soilDay}
 use Rattle.paper.specs.CellDay.{Today, Figures}
-use Rattle.survey.specs.Cells.{mostCapacity}
+use Rattle.covers.specs.Slots.{mostCapacity}
 use Rattle.recharge.specs.Depths.{gatheredLimit, past32}
 use Rattle.recharge.specs.Retention.{table}
-use Rattle.recharge.specs.Plots.{Plot}
+use Rattle.covers.specs.Plots.{Plot}
 use Rattle.recharge.specs.declared.cell_day.Figures as code
 
-abbrev pub figuresOf : code.Figures → Figures
-figuresOf r =
+abbrev pub figuresAs : code.Figures → Figures
+figuresAs r =
     record {
       intercepted = r .intercepted;
       outflow = r .outflow;

@@ -10,9 +10,10 @@ use Rattle.paper.specs.CellDay.{Today, Figures}
 use Rattle.paper.specs.Flow.{arriving, water}
 use Rattle.survey.specs.Routes.{nextIn, WaysIn, OrderedBy}
 use Rattle.recharge.specs.Depths.{meltLimit}
-use Rattle.recharge.specs.Plots.{Plot, plotIn}
+use Rattle.covers.specs.Plots.{Plot, plotIn}
 use Rattle.recharge.specs.CellDay.{ownBy, passedBy, figuresBy, goneBy, PlotFits, CellReady}
-use Rattle.recharge.specs.Totals.{totalsIn, totalsBy}
+use Rattle.records.specs.Answers.{totalsAs}
+use Rattle.recharge.specs.Totals.{totalsBy}
 use Rattle.records.specs.declared.answers.Totals.{Totals}
 
 -- the plot of cell i
@@ -44,7 +45,6 @@ dayAt t plots slots available soil snow arrived way i =
 -- what reading a cell's day asks for
 pub record LentAt (t : Today) (f plots slots available soil snow arrived : List ℕ) (i : ℕ) : Type 0 where
   pub small : i < 4096
-  pub slotted : getD slots i 0 < 256
   pub waters : i < length available
   pub soils : i < length soil
   pub snows : i < length snow
@@ -107,7 +107,6 @@ pub record Ready (t : Today) (plots slots ways order available : List ℕ) (s : 
   pub pointing : WaysIn (length available) ways
   pub ordered : OrderedBy (length available) (nextIn (length available) ways) order
   pub sized : Sized (length available) s
-  pub slotted : (i : ℕ) → i < length available → getD slots i 0 < 256
   pub plotted : (i : ℕ) → i < length available → PlotFits (plotOfCell plots slots available i)
   pub held : (i : ℕ) → i < length available → getD (s .soil) i 0 ≤ plotOfCell plots slots available i .capacity
   pub lying : (i : ℕ) → i < length available → getD (s .snow) i 0 + plotOfCell plots slots available i .snowfall ≤ mostSnow
@@ -115,6 +114,6 @@ pub record Ready (t : Today) (plots slots ways order available : List ℕ) (s : 
 -- every cell's stores and results, and the totals summed from them
 pub record Ran (t : Today) (plots slots ways available : List ℕ) (before : Slices) (totals : Totals) (after : Slices) : Type 0 where
   pub summed :
-      totalsIn totals
+      totalsAs totals
       ≡ totalsBy (length available) (t .gross) (figuresAt t plots slots ways available (before .soil) (before .snow)) (goneAt ways)
   pub written : after ≡ slicesBy (length available) (figuresAt t plots slots ways available (before .soil) (before .snow))

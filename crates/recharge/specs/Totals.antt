@@ -1,22 +1,9 @@
--- The totals of a day: the code's as the paper's, with one cell more, and summed over cells.
+-- The totals of a day: with one cell more, and summed over cells.
 use mathlib.Core.Bool.{Bool}
 use Prim.Native.Nat.{ℕ, _+_, _≤_}
 use Rattle.theory.specs.Sums.{sum, given}
 use Rattle.paper.specs.CellDay.{Figures}
 use Rattle.paper.specs.Day as paper
-use Rattle.records.specs.declared.answers.Totals.{Totals}
-
-abbrev pub totalsIn : Totals → paper.Totals
-totalsIn r =
-    record {
-      gross = r .gross .0;
-      intercepted = r .intercepted .0;
-      evapotranspired = r .evapotranspired .0;
-      recharged = r .recharged .0;
-      rejected = r .rejected .0;
-      gone = r .gone .0;
-      stored = r .stored .0;
-    }
 
 -- totals with one cell more
 unfoldable pub withCell : paper.Totals → ℕ → Figures → ℕ → paper.Totals

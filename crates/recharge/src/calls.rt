@@ -2,7 +2,7 @@
 ghost use mathlib.Core.Path.{_≡_};
 ghost use Rattle.paper.specs.Day.{dayOf, noTotals};
 ghost use Rattle.records.specs.Calls.{setupOf, stateOf, dayIn};
-ghost use Rattle.recharge.specs.Totals.{totalsIn};
+ghost use Rattle.recharge.specs.Totals.{totalsAs};
 ghost use Rattle.recharge.specs.Answers.{resultsOf, answered};
 use crate::downhill::downhill;
 use crate::plots::plots;
@@ -19,7 +19,7 @@ use records::today_of;
 
 // A day refused hands back what it was given, and no totals.
 fn refused(outcome: Outcome, memory: Memory, last: Last) -> Answer
-    ensures { λ r. ⌜ (r .outcome ≡ outcome) × (totalsIn (r .totals) ≡ noTotals) × (r .memory ≡ memory) × (r .last ≡ last) ⌝ }
+    ensures { λ r. ⌜ (r .outcome ≡ outcome) × (totalsAs (r .totals) ≡ noTotals) × (r .memory ≡ memory) × (r .last ≡ last) ⌝ }
 {
     Answer {
         outcome,

@@ -3,18 +3,18 @@
 ghost use mathlib.Core.Path.{_≡_};
 ghost use Prim.Native.Nat.{_≤_, _<_};
 ghost use Rattle.paper.specs.Limits.{mostCurveNumber};
-ghost use Rattle.records.specs.Calls.{todayOf};
+ghost use Rattle.weather.specs.Today.{todayAs};
 ghost use Rattle.recharge.specs.Depths.{waterLimit};
-ghost use Rattle.recharge.specs.Plots.{plotOf};
-ghost use Rattle.recharge.specs.CellDay.{figuresOf, passedBy, figuresBy, CellReady};
+ghost use Rattle.recharge.specs.Plots.{plotAs};
+ghost use Rattle.recharge.specs.CellDay.{figuresAs, passedBy, figuresBy, CellReady};
 use crate::outflow::outflow as runoff;
 use crate::plots::Plot;
 use crate::retention::KNOTS;
 use crate::soil::soil_day;
 use crate::ways::Way;
 use records::Depth;
-use records::Today;
-use records::melt;
+use weather::Today;
+use weather::melt;
 
 // Depths of 32 bits, as the lent slices hold them.
 pub(crate) struct Figures {
@@ -29,8 +29,8 @@ pub(crate) struct Figures {
 
 // What flows out of a cell: all of its water on open water, and nothing from a closed depression.
 fn passed(plot: Plot, way: Way, water: Depth) -> Depth
-    requires { ⌜ (plotOf plot .curve ≤ mostCurveNumber) × (water .0 < waterLimit) ⌝ }
-    ensures { λ r. ⌜ r .0 ≡ passedBy (plotOf plot) (way .0) (water .0) ⌝ }
+    requires { ⌜ (plotAs plot .curve ≤ mostCurveNumber) × (water .0 < waterLimit) ⌝ }
+    ensures { λ r. ⌜ r .0 ≡ passedBy (plotAs plot) (way .0) (water .0) ⌝ }
 {
     if way.0 == Way::OPEN_WATER.0 {
         return water;
@@ -50,8 +50,8 @@ pub(crate) fn cell_day(
     snow: Depth,
     arrived: Depth,
 ) -> Figures
-    requires { ⌜ CellReady (todayOf today) (plotOf plot) (soil .0) (snow .0) (arrived .0) (now f) ⌝ }
-    ensures { λ r. ⌜ figuresOf r ≡ figuresBy (todayOf today) (plotOf plot) (way .0) (soil .0) (snow .0) (arrived .0) ⌝ }
+    requires { ⌜ CellReady (todayAs today) (plotAs plot) (soil .0) (snow .0) (arrived .0) (now f) ⌝ }
+    ensures { λ r. ⌜ figuresAs r ≡ figuresBy (todayAs today) (plotAs plot) (way .0) (soil .0) (snow .0) (arrived .0) ⌝ }
 {
     let store = Depth(snow.0 + plot.snowfall.0);
     let melted = melt(store, today.meltable);

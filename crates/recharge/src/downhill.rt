@@ -1,9 +1,9 @@
 // An accepted day over all cells, in one pass downhill: the cell whose turn it is takes up what has arrived, its figures are written and added to
 // the totals, and what flows out of it is handed on before the next cell's turn comes.
 ghost use mathlib.Core.Path.{_≡_};
-ghost use Rattle.records.specs.Calls.{todayOf};
-ghost use Rattle.recharge.specs.Plots.{plotIn};
-ghost use Rattle.recharge.specs.CellDay.{figuresOf};
+ghost use Rattle.weather.specs.Today.{todayAs};
+ghost use Rattle.covers.specs.Plots.{plotIn};
+ghost use Rattle.recharge.specs.CellDay.{figuresAs};
 ghost use Rattle.recharge.specs.Downhill.{slicesOf, LentAt, dayAt, Ready, Ran};
 use crate::cell_day::Figures;
 use crate::cell_day::cell_day;
@@ -11,32 +11,34 @@ use crate::plots::plot_at;
 use crate::retention::KNOTS;
 use crate::retention::retention;
 use crate::totals::add_cell;
-use crate::totals::none_yet;
 use crate::ways::Way;
 use crate::ways::gone_from;
 use crate::ways::hand_on;
-use records::Today;
+use covers::PLOT_ROOM;
+use covers::small_place;
+use records::MOST_CELLS;
 use records::Totals;
 use records::depth;
 use records::place;
+use weather::Today;
 
 // The figures of one cell, by all that is lent, which is only read here.
 fn day_at(
     f: &[u32; KNOTS],
     today: Today,
-    plots: &[u32; 1536],
-    slots: &[u32; 4096],
+    plots: &[u32; PLOT_ROOM],
+    slots: &[u8; MOST_CELLS],
     water: &[u32],
     soil: &[u32],
     snow: &[u32],
-    arrived: &[u32; 4096],
+    arrived: &[u32; MOST_CELLS],
     way: Way,
     cell: usize,
 ) -> Figures
-    requires { ⌜ LentAt (todayOf today) (now f) (now plots) (now slots) (now water) (now soil) (now snow) (now arrived) cell ⌝ }
-    ensures { λ r. ⌜ figuresOf r ≡ dayAt (todayOf today) (now (plots .entry)) (now (slots .entry)) (now (water .entry)) (now (soil .entry)) (now (snow .entry)) (now (arrived .entry)) (way .0) cell ⌝ }
+    requires { ⌜ LentAt (todayAs today) (now f) (now plots) (now slots) (now water) (now soil) (now snow) (now arrived) cell ⌝ }
+    ensures { λ r. ⌜ figuresAs r ≡ dayAt (todayAs today) (now (plots .entry)) (now (slots .entry)) (now (water .entry)) (now (soil .entry)) (now (snow .entry)) (now (arrived .entry)) (way .0) cell ⌝ }
 {
-    let plot = plot_at(plots, place(slots[cell]), water[cell]);
+    let plot = plot_at(plots, small_place(slots[cell]), water[cell]);
     cell_day(
         f,
         today,
@@ -51,10 +53,10 @@ fn day_at(
 // No sum overflows: all the water there is fits in one cell.
 pub(crate) fn downhill(
     today: Today,
-    plots: &[u32; 1536],
-    slots: &[u32; 4096],
-    ways: &[u32; 4096],
-    order: &[u32; 4096],
+    plots: &[u32; PLOT_ROOM],
+    slots: &[u8; MOST_CELLS],
+    ways: &[u32; MOST_CELLS],
+    order: &[u32; MOST_CELLS],
     water: &[u32],
     soil: &mut [u32],
     snow: &mut [u32],
@@ -64,14 +66,14 @@ pub(crate) fn downhill(
     recharged: &mut [u32],
     rejected: &mut [u32],
 ) -> Totals
-    requires { ⌜ Ready (todayOf today) (now plots) (now slots) (now ways) (now order) (now water) (slicesOf (now soil) (now snow) (now intercepted) (now outflow) (now evapotranspired) (now recharged) (now rejected)) ⌝ }
-    ensures { λ r. ⌜ Ran (todayOf today) (now (plots .entry)) (now (slots .entry)) (now (ways .entry)) (now (water .entry)) (slicesOf (now (soil .entry)) (now (snow .entry)) (now (intercepted .entry)) (now (outflow .entry)) (now (evapotranspired .entry)) (now (recharged .entry)) (now (rejected .entry))) r (slicesOf (now (soil .exit)) (now (snow .exit)) (now (intercepted .exit)) (now (outflow .exit)) (now (evapotranspired .exit)) (now (recharged .exit)) (now (rejected .exit))) ⌝ }
+    requires { ⌜ Ready (todayAs today) (now plots) (now slots) (now ways) (now order) (now water) (slicesOf (now soil) (now snow) (now intercepted) (now outflow) (now evapotranspired) (now recharged) (now rejected)) ⌝ }
+    ensures { λ r. ⌜ Ran (todayAs today) (now (plots .entry)) (now (slots .entry)) (now (ways .entry)) (now (water .entry)) (slicesOf (now (soil .entry)) (now (snow .entry)) (now (intercepted .entry)) (now (outflow .entry)) (now (evapotranspired .entry)) (now (recharged .entry)) (now (rejected .entry))) r (slicesOf (now (soil .exit)) (now (snow .exit)) (now (intercepted .exit)) (now (outflow .exit)) (now (evapotranspired .exit)) (now (recharged .exit)) (now (rejected .exit))) ⌝ }
 {
     let n = water.len();
     let gross = today.gross;
     let f = retention();
-    let mut arrived = [0u32; 4096];
-    let mut totals = none_yet();
+    let mut arrived = [0u32; MOST_CELLS];
+    let mut totals = Totals::none();
     let mut turn = 0;
     while turn < n {
         let cell = place(order[turn]);

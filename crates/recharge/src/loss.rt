@@ -3,7 +3,7 @@ ghost use mathlib.Core.Path.{_≡_};
 ghost use Prim.Native.Nat.{_≤_, _<_};
 ghost use Rattle.paper.specs.Limits.{mostPotential};
 ghost use Rattle.paper.specs.Retention.{L, loss as rule8};
-ghost use Rattle.survey.specs.Cells.{mostCapacity};
+ghost use Rattle.covers.specs.Slots.{mostCapacity};
 ghost use Rattle.recharge.specs.Retention.{table};
 use crate::retention::KNOTS;
 use crate::retention::LAST_KNOT;

@@ -3,10 +3,10 @@ ghost use mathlib.Core.Path.{_≡_};
 ghost use Prim.Native.Nat.{_≤_, _<_};
 ghost use Rattle.paper.specs.Limits.{mostPotential};
 ghost use Rattle.paper.specs.Soil.{wetDay, dryDay, soilDay};
-ghost use Rattle.survey.specs.Cells.{mostCapacity};
+ghost use Rattle.covers.specs.Slots.{mostCapacity};
 ghost use Rattle.recharge.specs.Depths.{waterLimit};
 ghost use Rattle.recharge.specs.Retention.{table};
-ghost use Rattle.recharge.specs.Soil.{soilDayOf};
+ghost use Rattle.recharge.specs.Soil.{soilDayAs};
 use crate::loss::loss;
 use crate::retention::KNOTS;
 use records::Depth;
@@ -27,7 +27,7 @@ fn wet_day(
     potential: Depth,
 ) -> SoilDay
     requires { ⌜ (capacity .0 ≤ mostCapacity) × (soil .0 ≤ capacity .0) × (infiltration .0 < waterLimit) × (potential .0 ≤ infiltration .0) ⌝ }
-    ensures { λ r. ⌜ soilDayOf r ≡ wetDay (capacity .0) (largest .0) (soil .0) (infiltration .0) (potential .0) ⌝ }
+    ensures { λ r. ⌜ soilDayAs r ≡ wetDay (capacity .0) (largest .0) (soil .0) (infiltration .0) (potential .0) ⌝ }
 {
     let before = soil.0;
     let n = infiltration.0;
@@ -51,7 +51,7 @@ fn dry_day(
     potential: Depth,
 ) -> SoilDay
     requires { ⌜ (capacity .0 ≤ mostCapacity) × (soil .0 ≤ capacity .0) × (infiltration .0 < potential .0) × (potential .0 ≤ mostPotential) × (now f ≡ table) ⌝ }
-    ensures { λ r. ⌜ soilDayOf r ≡ dryDay (capacity .0) (soil .0) (infiltration .0) (potential .0) ⌝ }
+    ensures { λ r. ⌜ soilDayAs r ≡ dryDay (capacity .0) (soil .0) (infiltration .0) (potential .0) ⌝ }
 {
     let before = soil.0;
     let n = infiltration.0;
@@ -74,7 +74,7 @@ pub(crate) fn soil_day(
     potential: Depth,
 ) -> SoilDay
     requires { ⌜ (capacity .0 ≤ mostCapacity) × (soil .0 ≤ capacity .0) × (infiltration .0 < waterLimit) × (potential .0 ≤ mostPotential) × (now f ≡ table) ⌝ }
-    ensures { λ r. ⌜ soilDayOf r ≡ soilDay (capacity .0) (largest .0) (soil .0) (infiltration .0) (potential .0) ⌝ }
+    ensures { λ r. ⌜ soilDayAs r ≡ soilDay (capacity .0) (largest .0) (soil .0) (infiltration .0) (potential .0) ⌝ }
 {
     let n = infiltration.0;
     let e = potential.0;

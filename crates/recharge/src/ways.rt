@@ -6,16 +6,20 @@ ghost use Rattle.theory.specs.Lists.{addedAt};
 ghost use Rattle.theory.specs.Sums.{given};
 ghost use Rattle.recharge.specs.CellDay.{goneBy};
 ghost use Rattle.recharge.specs.Depths.{past32};
+use records::MOST_CELLS;
 use records::place;
+use survey::CLOSED;
+use survey::OPEN_WATER;
+use survey::OVER_THE_EDGE;
 
 pub(crate) struct Way(pub(crate) u32);
 
 impl Way {
-    pub(crate) const OVER_THE_EDGE: Way = Way(4096);
+    pub(crate) const OVER_THE_EDGE: Way = Way(OVER_THE_EDGE);
 
-    pub(crate) const CLOSED: Way = Way(4097);
+    pub(crate) const CLOSED: Way = Way(CLOSED);
 
-    pub(crate) const OPEN_WATER: Way = Way(4098);
+    pub(crate) const OPEN_WATER: Way = Way(OPEN_WATER);
 }
 
 // All of it leaves the grid over the edge and from open water.
@@ -32,7 +36,7 @@ pub(crate) fn gone_from(way: Way, handed: u32) -> u32
 }
 
 // The cell to which the way leads, if it leads to one of the n, takes it up.
-pub(crate) fn hand_on(n: usize, way: Way, handed: u32, arrived: &mut [u32; 4096])
+pub(crate) fn hand_on(n: usize, way: Way, handed: u32, arrived: &mut [u32; MOST_CELLS])
     requires { ⌜ (n ≤ 4096) × (way .0 < n → getD (now arrived) (way .0) 0 + handed < past32) ⌝ }
     ensures { λ r. ⌜ now (arrived .exit) ≡ addedAt n (way .0) handed (now (arrived .entry)) ⌝ }
 {

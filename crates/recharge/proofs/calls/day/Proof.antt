@@ -9,7 +9,7 @@ use Rattle.paper.specs.Refusals.{accepted}
 use Rattle.paper.specs.Day.{Results, verdictOf, lengthsOf}
 use Rattle.paper.proofs.DayLaws.{SoundDay, sound-day}
 use Rattle.recharge.specs.Answers.{resultsOf}
-use Rattle.records.specs.Calls.{gridOf, setupOf, stateOf, dayIn, todayOf}
+use Rattle.records.specs.Calls.{gridOf, setupOf, stateOf, dayIn, todayAs}
 use Rattle.recharge.proofs.AnswerLaws.{ready, accepted-answer, refused-answer}
 use Rattle.records.proofs.LimitLaws.{today-fits}
 use Rattle.records.proofs.OutcomeLaws.{accepted-back}
@@ -40,7 +40,7 @@ passed c = accepted-back _ (sym (c .enum-told .given .1) ∙ c .before .before .
 sound : (c : tie.After-enum-told) → let b = start (c .before .before) in SoundDay (setup b) (state b) (results b) (dayIn (b .args .day))
 sound c = let b = start (c .before .before) in sound-day (setup b) (state b) (results b) (dayIn (b .args .day)) (passed c)
 
-weather : (c : tie.After-today-of) → let b = start (c .before .before .before) in todayOf (c .today-of .result) ≡ today (setup b) (state b .memory) (dayIn (b .args .day))
+weather : (c : tie.After-today-of) → let b = start (c .before .before .before) in todayAs (c .today-of .result) ≡ today (setup b) (state b .memory) (dayIn (b .args .day))
 unfolding today growing
 weather c =
     let ok = sound (c .before) in

@@ -2,10 +2,10 @@
 use mathlib.Core.Path.{refl}
 use Prim.Native.Nat.{_+_, _-_, _<_}
 use native.Mathlib.Omega.{arith}
-use Rattle.records.specs.Calls.{todayOf}
+use Rattle.weather.specs.Today.{todayAs}
 use Rattle.recharge.specs.Depths.{gatheredLimit}
-use Rattle.recharge.specs.Plots.{plotOf}
-use Rattle.recharge.specs.Soil.{soilDayOf}
+use Rattle.recharge.specs.Plots.{plotAs}
+use Rattle.recharge.specs.Soil.{soilDayAs}
 use Rattle.recharge.specs.CellDay.{ownBy, Fit32}
 use Rattle.recharge.proofs.FigureLaws.{stepped, steps-are, steps-fit}
 use borrow.Author.Needs.{needs}
@@ -18,7 +18,7 @@ wet c = omega (arith, c .before .before .before .melt .ensures, c .before .befor
 
 fits : (c : tie.After-soil-day)
     → let a = c .before .before .before .before .before .before .before .before .before .args in
-    Fit32 (stepped (plotOf (a .plot)) (c .before .before .passed .result .0) (soilDayOf (c .soil-day .result)) (a .snow .0 + a .plot .snowfall .0 - c .before .before .before .before .before .before .melt .result .0))
+    Fit32 (stepped (plotAs (a .plot)) (c .before .before .passed .result .0) (soilDayAs (c .soil-day .result)) (a .snow .0 + a .plot .snowfall .0 - c .before .before .before .before .before .before .melt .result .0))
 fits c = steps-fit _ _ _ _ _ _ _ _ _ _ _ (c .before .before .before .before .before .before .melt .ensures) (c .before .before .passed .ensures) (c .before .beyond .ensures) (c .soil-day .ensures) refl (c .before .before .before .before .before .before .before .before .before .pre)
 
 add-t13-2 : tie.Need-add-t13-2
@@ -60,7 +60,7 @@ cast-t22 c = omega (arith, c .before .beyond2 .ensures, fits (c .before .before 
 returns : tie.Need-returns
 returns c =
     let d = c .before .before .before .before .before .before .before .before in
-    steps-are (todayOf (d .before .before .before .before .before .before .before .before .before .args .today)) _ _ _ _ _ _ _ _ _ _ (d .before .before .before .before .before .before .melt .ensures) (d .before .before .passed .ensures) (d .before .beyond .ensures) (d .soil-day .ensures) (c .before .beyond2 .ensures)
+    steps-are (todayAs (d .before .before .before .before .before .before .before .before .before .args .today)) _ _ _ _ _ _ _ _ _ _ (d .before .before .before .before .before .before .melt .ensures) (d .before .before .passed .ensures) (d .before .beyond .ensures) (d .soil-day .ensures) (c .before .beyond2 .ensures)
 
 pub cell-day-spec : {M : Type 1} → statement M
 cell-day-spec =

@@ -3,9 +3,9 @@ use mathlib.Core.Path.{_≡_, refl, sym, _∙_}
 use Prim.Native.Nat.{_-_, _<_}
 use native.Mathlib.Omega.{arith}
 use lib.ListN.{length}
-use Rattle.records.specs.Calls.{todayOf}
+use Rattle.weather.specs.Today.{todayAs}
 use Rattle.recharge.specs.Downhill.{slicesOf, Sized}
-use Rattle.recharge.specs.Totals.{totalsIn}
+use Rattle.records.specs.Answers.{totalsAs}
 use Rattle.recharge.proofs.DownhillLaws.{Pass, pass-none, pass-sized, pass-room, pass-end, pass-inside, pass-small, pass-lent, pass-fits, pass-more}
 use borrow.Author.Needs.{needs}
 use Rattle.recharge.proofs.downhill.downhill.Statement.{statement}
@@ -13,7 +13,7 @@ use Rattle.recharge.proofs.downhill.downhill.Tie as tie
 
 abbrev Inv-loop : tie.InvT-loop
 Inv-loop today plots slots ways order water soil₀ snow₀ intercepted₀ outflow₀ evapotranspired₀ recharged₀ rejected₀ n gross f arrived₀ totals₀ turn₀ soil snow intercepted outflow evapotranspired recharged rejected arrived totals turn =
-    Pass (todayOf today) plots slots ways order water (slicesOf soil₀ snow₀ intercepted₀ outflow₀ evapotranspired₀ recharged₀ rejected₀) turn (totalsIn totals) f arrived
+    Pass (todayAs today) plots slots ways order water (slicesOf soil₀ snow₀ intercepted₀ outflow₀ evapotranspired₀ recharged₀ rejected₀) turn (totalsAs totals) f arrived
     (slicesOf soil snow intercepted outflow evapotranspired recharged rejected)
 
 abbrev μ-loop : tie.MeasureT-loop
@@ -40,11 +40,11 @@ inside c = let p = turned c in pass-inside (p .before .before .before .loop .inv
 retention-requires : tie.Need-retention-requires Inv-loop μ-loop
 retention-requires c κs = search needs
 
-none-yet-requires : tie.Need-none-yet-requires Inv-loop μ-loop
-none-yet-requires c κs = search needs
+none-requires : tie.Need-none-requires Inv-loop μ-loop
+none-requires c κs = search needs
 
 loop-holds : tie.Need-loop-holds Inv-loop μ-loop
-loop-holds c = pass-none (c .before .before .before .before .before .before .before .before .before .before .before .pre) _ (c .none-yet .ensures) _ (c .before .retention .ensures)
+loop-holds c = pass-none (c .before .before .before .before .before .before .before .before .before .before .before .pre) _ (c .none .ensures) _ (c .before .retention .ensures)
 
 mul-place : tie.Need-mul-place Inv-loop μ-loop
 mul-place c = omega (arith, c .loop-test .taken, c .before .loop .inv .ready .pointing .most)
@@ -159,7 +159,7 @@ downhill-spec =
     Inv-loop
     μ-loop
     retention-requires
-    none-yet-requires
+    none-requires
     loop-holds
     mul-place
     element-copy-out-place

@@ -1,5 +1,5 @@
 -- `plots::plot_at` meets its contract: each number is read at its place.
-use Rattle.recharge.specs.Plots.{plotIn}
+use Rattle.covers.specs.Plots.{plotIn}
 use borrow.Author.Needs.{needs}
 use Rattle.recharge.proofs.plots.plot_at.Statement.{statement}
 use Rattle.recharge.proofs.plots.plot_at.Tie as tie
