@@ -11,34 +11,35 @@ use borrow.Author.Tests.{eqb-true, ne-eqb}
 use Rattle.theory.specs.Lists.{made}
 use Rattle.theory.specs.Sums.{sum, given}
 use Rattle.theory.proofs.Cases.{and-left, and-right, byCases}
-use Rattle.theory.proofs.ListLaws.{made-cong}
+use Rattle.theory.proofs.ListLaws.{made-cong, over-at}
 use Rattle.theory.proofs.SumLaws.{sum-cong}
 use Rattle.paper.specs.Limits.{mostGross}
 use Rattle.paper.specs.Covers.{entries}
 use Rattle.paper.specs.Directions.{Goes, to, leaves, stays, openWater}
-use Rattle.paper.specs.Setup.{Setup, Cell, cell, cells, isOpen, goes, pointed, next}
-use Rattle.paper.specs.State.{State, Day, Memory, remembered, serial, soilAt, snowAt}
+use Rattle.paper.specs.Setup.{Setup, cell, cells, waterOf, goes, pointed, next}
+use Rattle.paper.specs.State.{State, Day, Past, remembered, serial, soilAt, snowAt}
 use Rattle.paper.specs.CellDay.{Today, today, Figures, cellDay}
 use Rattle.paper.specs.CurveNumber.{curveNumber}
 use Rattle.paper.specs.Refusals.{Verdict, accepted, refused, oneEach, setupLengths}
 use Rattle.paper.specs.Day as paper
 use Rattle.paper.proofs.DayLaws as days
 use Rattle.paper.proofs.FlowLaws.{arriving-same}
-use Rattle.paper.proofs.SetupLaws.{Charted, sound-cell, closed-by, open-by, to-inside, next-past}
+use Rattle.paper.proofs.SetupLaws.{Charted, SoundCell, sound-cell, closed-by, open-by, to-inside, next-past}
 use Rattle.paper.proofs.SnowLaws.{melt-most}
 use Rattle.survey.specs.Cells.{slotOf}
 use Rattle.survey.specs.Routes.{nextIn}
 use Rattle.survey.specs.Survey.{Mapped}
-use Rattle.records.specs.Calls.{outcomeIn, verdictAs}
-use Rattle.records.specs.declared.answers.Outcome.{Outcome}
-use Rattle.records.specs.declared.answers.Outcome.the-variants.{Accepted}
+use Rattle.records.specs.Verdicts.{verdictAs, verdictIn}
+use Rattle.records.specs.declared.verdicts.Verdict as code
+use Rattle.records.specs.declared.verdicts.Verdict.the-variants.{Accepted}
 use Rattle.records.specs.declared.answers.Totals.{Totals}
-use Rattle.records.proofs.LimitLaws.{DayKnown, day-known}
-use Rattle.records.proofs.OutcomeLaws.{verdict-back}
+use Rattle.records.proofs.VerdictLaws.{verdict-back}
+use Rattle.weather.proofs.TodayLaws.{DayKnown, day-known}
 use Rattle.survey.proofs.CellLaws.{slot-limit, cell-is}
 use Rattle.covers.proofs.TableLaws.{count-limit}
 use Rattle.survey.proofs.MapLaws.{slot-at}
 use Rattle.survey.proofs.CountLaws.{ways-next}
+use Rattle.covers.specs.Slots.{cellFrom}
 use Rattle.covers.specs.Plots.{plotsOf, plotFor}
 use Rattle.recharge.specs.CellDay.{goneBy}
 use Rattle.records.specs.Answers.{totalsAs}
@@ -49,7 +50,7 @@ use Rattle.recharge.proofs.FigureLaws.{plot-fits, store-plot, own-plot,
 
 module _ (s : Setup) (st : State) (r : paper.Results) (d : Day) (before ways₀ slots ways order : List ℕ) (t : Today) (blank plots : List ℕ)
     (ok : days.SoundDay s st r d) (m : Mapped s before ways₀ slots ways order)
-    (is-today : t ≡ today s (st .memory) d) (filled : plots ≡ plotsOf t (s .covers) blank) where
+    (is-today : t ≡ today (s .season) (st .past) d) (filled : plots ≡ plotsOf t (s .covers) blank) where
   chart : Charted s
   chart = ok .setup .charted
 
@@ -103,11 +104,16 @@ module _ (s : Setup) (st : State) (r : paper.Results) (d : Day) (before ways₀ 
   way-here : (i : ℕ) → i < cells s → getD ways i 0 ≡ next s i
   way-here i h = rw (m .ways-are) (over-at (cells s) (next s) ways₀ 0 i h)
 
+  -- a slot's curve number is one of the table's
+  tabled : (i : ℕ) → i < cells s → SoundCell (cellFrom (s .covers) (slotOf s i) (waterOf s i) (next s i))
+  tabled i h = rw (cell-is s chart i h) at (sound-cell s chart i h)
+
   plot-here : (i : ℕ) → i < cells s → pass.plotOfCell plots slots (s .water) i ≡ plotFor t (cell s i)
-  unfolding pass.plotOfCell
+  unfolding pass.plotOfCell cellFrom
   plot-here i h =
       rw (slot-here i h)
-      (plot-is t (s .covers) blank plots few filled (slotOf s i) (slot-limit s chart i h) (slot-small i h) (getD (s .water) i 0) (next s i))
+      (plot-is t (s .covers) blank plots few filled (slotOf s i) (slot-limit s chart i h) (slot-small i h) (waterOf s i) (next s i)
+      (tabled i h .least-N) (tabled i h .most-N))
       ∙ ap (plotFor t) (sym (cell-is s chart i h))
 
   -- what tells open water, and what leaves the grid
@@ -234,8 +240,8 @@ module _ (s : Setup) (st : State) (r : paper.Results) (d : Day) (before ways₀ 
   today-gross = ap (λ (x : Today). x .gross) is-today
 
   -- the whole answer of an accepted day
-  pub accepted-answer : paper.verdictOf s st r d ≡ accepted → (o : Outcome) → o ≡ Accepted → (memory : Memory)
-      → memory ≡ remembered (st .memory) (d .gross) → (totals : Totals) (after : pass.Slices)
+  pub accepted-answer : paper.verdictOf s st r d ≡ accepted → (o : code.Verdict) → o ≡ Accepted → (past : Past)
+      → past ≡ record { memory = remembered (st .past .memory) (d .gross); last = serial (d .serial) } → (totals : Totals) (after : pass.Slices)
       → pass.Ran t plots slots ways (s .water) slices totals after
       → record {
         verdict = verdictAs o;
@@ -248,11 +254,11 @@ module _ (s : Setup) (st : State) (r : paper.Results) (d : Day) (before ways₀ 
               rejected = after .rejected;
             };
         totals = totalsAs totals;
-        state = record { soil = after .soil; snow = after .snow; memory = memory; last = serial (d .serial) };
+        state = record { soil = after .soil; snow = after .snow; past = past };
       }
       ≡ paper.dayOf s st r d
   unfolding paper.outcomeAs paper.resultsOf paper.nextState pass.slicesBy
-  accepted-answer v o passed memory next totals after ran =
+  accepted-answer v o passed past next totals after ran =
       (λ k. record {
         verdict = verdictAs (passed k);
         results =
@@ -264,7 +270,7 @@ module _ (s : Setup) (st : State) (r : paper.Results) (d : Day) (before ways₀ 
               rejected = (same k) .rejected;
             };
         totals = (ran .summed ∙ totals-same _ _ _ _ (lent .waters) today-gross figure-same gone-same) k;
-        state = record { soil = (same k) .soil; snow = (same k) .snow; memory = next k; last = serial (d .serial) };
+        state = record { soil = (same k) .soil; snow = (same k) .snow; past = next k };
       })
       ∙ sym (days.accepted-is s st r d v)
     where
@@ -272,17 +278,17 @@ module _ (s : Setup) (st : State) (r : paper.Results) (d : Day) (before ways₀ 
       same = ran .written ∙ slices-same _ _ (lent .waters) figure-same
 
 -- a refused day hands back what it was given
-pub refused-answer : (s : Setup) (st : State) (r : paper.Results) (d : Day) (o given-o : Outcome) (totals : paper.Totals) (state : State)
-    → o ≡ given-o → totals ≡ paper.noTotals → state ≡ st → given-o ≡ outcomeIn (paper.verdictOf s st r d) → (given-o ≡ Accepted → ⊥)
+pub refused-answer : (s : Setup) (st : State) (r : paper.Results) (d : Day) (o given-o : code.Verdict) (totals : paper.Totals) (state : State)
+    → o ≡ given-o → totals ≡ paper.noTotals → state ≡ st → given-o ≡ verdictIn (paper.verdictOf s st r d) → (given-o ≡ Accepted → ⊥)
     → record { verdict = verdictAs o; results = r; totals = totals; state = state } ≡ paper.dayOf s st r d
 refused-answer s st r d o given-o totals state same none kept e not = go (paper.verdictOf s st r d) refl
   where
     go : (v : Verdict) → paper.verdictOf s st r d ≡ v
         → record { verdict = verdictAs o; results = r; totals = totals; state = state } ≡ paper.dayOf s st r d
-    go accepted q = absurd (not (e ∙ ap outcomeIn q))
+    go accepted q = absurd (not (e ∙ ap verdictIn q))
     go (refused why) q =
         (λ k. record {
-          verdict = (ap verdictAs (same ∙ e ∙ ap outcomeIn q) ∙ verdict-back (refused why)) k;
+          verdict = (ap verdictAs (same ∙ e ∙ ap verdictIn q) ∙ verdict-back (refused why)) k;
           results = r;
           totals = none k;
           state = kept k;
