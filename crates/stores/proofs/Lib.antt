@@ -1,0 +1,4 @@
+pub mod StateLaws
+pub mod SnowfallLaws
+pub mod FreshLaws
+pub mod TestLaws

@@ -1,0 +1,88 @@
+// A fresh state.
+ghost use mathlib.Core.Path.{_≡_};
+ghost use lib.ListN.{length};
+ghost use Rattle.paper.specs.State.{noPast};
+ghost use Rattle.paper.specs.Day.{freshOf};
+ghost use Rattle.records.specs.Answers.{freshAs};
+ghost use Rattle.records.specs.Grids.{setupAs};
+ghost use Rattle.records.specs.Past.{pastAs};
+ghost use Rattle.survey.specs.Cells.{SlotsFit};
+ghost use Rattle.stores.specs.Fresh.{Filled};
+use covers::root_depths;
+use covers::small_place;
+use records::Grid;
+use records::MOST_CELLS;
+use records::Past;
+use records::Refusal;
+use records::Season;
+use records::Start;
+use records::Verdict;
+use records::stores_each;
+use survey::survey;
+
+// No rain yet, and no serial.
+fn begin(verdict: Verdict) -> Start
+    ensures { λ r. ⌜ (r .verdict ≡ verdict) × (pastAs (r .past) ≡ noPast) ⌝ }
+{
+    let past = Past::none();
+    Start { verdict, past }
+}
+
+// Fills a fresh state's stores: soil full, none on open water, and no snow.
+fn fill(covers: &[u32], slots: &[u8; MOST_CELLS], water: &[u32], soil: &mut [u32], snow: &mut [u32])
+    requires { ⌜ SlotsFit (now covers) (length (now water)) (now slots) (now water)
+        × (length (now soil) ≡ length (now water)) × (length (now snow) ≡ length (now water)) ⌝ }
+    ensures { λ r. ⌜ Filled (now (covers .entry)) (now (slots .entry)) (now (water .entry)) (now (soil .exit)) (now (snow .exit)) ⌝ }
+{
+    let roots = root_depths(covers);
+    let mut i = 0;
+    while i < water.len() {
+        soil[i] = water[i] * roots[small_place(slots[i])];
+        snow[i] = 0;
+        i += 1;
+    }
+}
+
+// A fresh state: tests 1 to 6, then soil full (0 on open water), snow 0, five zeros and no serial.
+pub fn fresh(
+    grid: Grid,
+    season: Season,
+    covers: &[u32],
+    direction: &[u32],
+    cover: &[u32],
+    group: &[u32],
+    water: &[u32],
+    soil: &mut [u32],
+    snow: &mut [u32],
+) -> Start
+    ensures { λ r. ⌜ freshAs r (now (soil .exit)) (now (snow .exit)) ≡ freshOf
+        (setupAs grid season (now (covers .entry)) (now (direction .entry)) (now (cover .entry)) (now (group .entry)) (now (water .entry)))
+        (now (soil .entry)) (now (snow .entry)) ⌝ }
+{
+    if !grid.fits() {
+        return begin(Verdict::Refused(Refusal::Grid));
+    }
+    if !stores_each(grid.cells(), soil.len(), snow.len()) {
+        return begin(Verdict::Refused(Refusal::Lent));
+    }
+    let mut slots = [0u8; MOST_CELLS];
+    let mut ways = [0u32; MOST_CELLS];
+    let mut order = [0u32; MOST_CELLS];
+    let verdict = survey(
+        grid,
+        season,
+        covers,
+        direction,
+        cover,
+        group,
+        water,
+        &mut slots,
+        &mut ways,
+        &mut order,
+    );
+    let Verdict::Accepted = verdict else {
+        return begin(verdict);
+    };
+    fill(covers, &slots, water, soil, snow);
+    begin(verdict)
+}
