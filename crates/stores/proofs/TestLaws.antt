@@ -24,7 +24,6 @@ use Rattle.paper.specs.Day.{checkOf}
 use Rattle.paper.proofs.SetupLaws.{Charted}
 use Rattle.paper.proofs.RefusalLaws.{Passes, testAt, accepted-passes}
 use Rattle.covers.specs.Slots.{openAt, seasonAt, cellFrom}
-use Rattle.covers.proofs.TableLaws.{count-limit}
 use Rattle.survey.specs.Cells.{slotOf, SlotsFit}
 use Rattle.survey.proofs.CellLaws.{cell-is}
 use Rattle.survey.proofs.MapLaws.{sound-setup, waters-each, slot-at, slots-fit}
@@ -135,5 +134,5 @@ module _ (s : Setup) (st : State) (slots : List ℕ) (ok : Surveyed s st slots) 
         ap (λ (n : ℕ). verdict (record { places = n; fails = deepIn plots slots (st .snow); called = snowfall } ∷ [])) all
         ∙ alike (cells s) _ _ snowfall
         (λ i h. deep-any (s .covers) (getD slots i 0) (getD (s .water) i 0) (next s i) t (fallIn plots (getD slots i 0)) (snowAt st i)
-        (falls .each (getD slots i 0) (omega (arith, slotted .slotted i h, count-limit (s .covers) (slotted .table)))) (lying i h)
+        (falls .each (getD slots i 0) (slotted .slotted i h)) (lying i h)
         ∙ ap (λ (c : Cell). tooDeep c t (snowAt st i)) (cell-of i h))

@@ -7,6 +7,7 @@ use lib.Dec.{ltb}
 use lib.ListN.{length, getD}
 use Rattle.theory.specs.Sums.{given}
 use Rattle.paper.specs.Limits.{mostCells, mostSnow}
+use Rattle.paper.specs.Covers.{entries}
 use Rattle.paper.specs.Interception.{net}
 use Rattle.paper.specs.CellDay.{Today}
 use Rattle.paper.specs.Refusals.{Test, snowfall}
@@ -24,7 +25,7 @@ unfoldable pub snowTests : List ℕ → List ℕ → List ℕ → List Test
 snowTests plots slots snow =
     record { places = min (length snow) mostCells; fails = deepIn plots slots snow; called = snowfall } ∷ []
 
--- the array has each slot's snowfall of the day, which is 0 on open water
+-- the array has the day's snowfall of each slot of the table, which is 0 on open water
 pub record Falls (covers plots : List ℕ) (t : Today) : Type 0 where
-  pub each : (slot : ℕ) → slot < 256
+  pub each : (slot : ℕ) → slot < 4 * entries covers
       → fallIn plots slot ≡ cond (openAt covers slot) 0 (given (t .snows?) (net (t .gross) (seasonAt covers slot (t .growing?))))

@@ -4,7 +4,5 @@ mod snowfall;
 mod states;
 
 pub use fresh_states::fresh;
-pub use snowfall::PLOT_NUMBERS;
-pub use snowfall::SNOWFALL;
 pub use snowfall::snow_verdict;
 pub use states::state_verdict;

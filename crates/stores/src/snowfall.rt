@@ -7,19 +7,16 @@ ghost use Rattle.paper.specs.Refusals.{verdict};
 ghost use Rattle.records.specs.Verdicts.{verdictIn};
 ghost use Rattle.stores.specs.Snowfall.{fallIn, snowTests};
 use crate::states::within_32;
+use covers::PLOT_NUMBERS;
+use covers::PLOT_ROOM;
+use covers::SNOWFALL;
 use covers::small_place;
 use records::Depth;
 use records::MOST_CELLS;
 use records::Refusal;
 use records::Verdict;
 
-// What cells of one slot share on a day is six numbers a slot, for 256 slots.
-pub const PLOT_NUMBERS: usize = 6;
-
-// The place of the snowfall among them.
-pub const SNOWFALL: usize = 2;
-
-fn is_deep(plots: &[u32; 1536], slot: u8, snow: u32) -> bool
+fn is_deep(plots: &[u32; PLOT_ROOM], slot: u8, snow: u32) -> bool
     ensures { λ r. ⌜ r ≡ ltb mostSnow (snow + fallIn (now (plots .entry)) slot) ⌝ }
 {
     let at = small_place(slot);
@@ -27,7 +24,7 @@ fn is_deep(plots: &[u32; 1536], slot: u8, snow: u32) -> bool
 }
 
 // The lowest cell whose store the snowfall of its slot would take past its limit. There are slots for 4,096 stores: no store past them is looked at.
-pub fn snow_verdict(plots: &[u32; 1536], slots: &[u8; MOST_CELLS], snow: &[u32]) -> Verdict
+pub fn snow_verdict(plots: &[u32; PLOT_ROOM], slots: &[u8; MOST_CELLS], snow: &[u32]) -> Verdict
     ensures { λ r. ⌜ r ≡ verdictIn (verdict (snowTests (now (plots .entry)) (now (slots .entry)) (now (snow .entry)))) ⌝ }
 {
     let mut n = snow.len();
