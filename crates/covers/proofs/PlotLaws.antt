@@ -22,7 +22,7 @@ use Rattle.paper.specs.CellDay.{Today, figureOf, interceptedOf, netOf, rainOf}
 use Rattle.paper.proofs.CurveNumberLaws.{curve-number-limits}
 use Rattle.weather.specs.Conditions.{curveNumberIn}
 use Rattle.weather.proofs.TodayLaws.{table-number}
-use Rattle.covers.specs.Slots.{openAt, groupNumberAt, cellFrom}
+use Rattle.covers.specs.Slots.{openAt, seasonAt, groupNumberAt, cellFrom}
 use Rattle.covers.specs.Plots.{heldOf, wetOf, fallOf, curveOf, curveIn, drainOf, sharedBy, plotNumber, plotsOf, Plot, plotFor, plotAt, plotIn}
 
 -- a number of 32 bits is one again in any condition
@@ -97,6 +97,11 @@ module _ (t : Today) (covers before plots : List ℕ) (few : t .gross ≤ mostGr
       let laid-there : 6 * slot + k < 6 * min 256 (4 * entries covers) = omega arith in
       rw (filled, le-leb (t .gross) mostGross few) (over-at (6 * min 256 (4 * entries covers)) (plotNumber t covers) before 0 (6 * slot + k) laid-there)
       ∙ number-of t covers slot k h
+
+  -- the snowfall alone
+  pub fall-is : plotAt plots slot 2 ≡ cond (openAt covers slot) 0 (given (t .snows?) (net (t .gross) (seasonAt covers slot (t .growing?))))
+  unfolding sharedBy fallOf cellFrom netOf figureOf seasonAt
+  fall-is = at-place 2 (omega arith)
 
   times-root : (b : Bool) (water d : ℕ) → water * cond b 0 d ≡ cond b 0 (water * d)
   times-root true water d = mul-zero water

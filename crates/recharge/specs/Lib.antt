@@ -5,4 +5,4 @@ pub mod Plots
 pub mod CellDay
 pub mod Totals
 pub mod Downhill
-pub mod Answers
+pub mod Tests

@@ -1,37 +1,29 @@
 // The office's daily call.
 ghost use mathlib.Core.Path.{_≡_};
-ghost use Rattle.paper.specs.Day.{dayOf, noTotals};
-ghost use Rattle.records.specs.Calls.{setupOf, stateOf, dayIn};
-ghost use Rattle.recharge.specs.Totals.{totalsAs};
-ghost use Rattle.recharge.specs.Answers.{resultsOf, answered};
+ghost use Rattle.paper.specs.Day.{dayOf};
+ghost use Rattle.records.specs.Grids.{setupAs};
+ghost use Rattle.records.specs.Past.{stateAs};
+ghost use Rattle.records.specs.Days.{dayAs};
+ghost use Rattle.records.specs.Answers.{resultsAs, outcomeAs};
 use crate::downhill::downhill;
-use crate::plots::plots;
-use crate::totals::none_yet;
-use admission::Lengths;
-use admission::admit;
+use crate::tests::Lengths;
+use crate::tests::tests;
+use covers::PLOT_ROOM;
 use records::Answer;
 use records::DayRecord;
+use records::Grid;
 use records::Last;
-use records::Memory;
-use records::Outcome;
-use records::Setup;
-use records::today_of;
+use records::MOST_CELLS;
+use records::Past;
+use records::Season;
+use records::Totals;
+use records::Verdict;
 
-// A day refused hands back what it was given, and no totals.
-fn refused(outcome: Outcome, memory: Memory, last: Last) -> Answer
-    ensures { λ r. ⌜ (r .outcome ≡ outcome) × (totalsAs (r .totals) ≡ noTotals) × (r .memory ≡ memory) × (r .last ≡ last) ⌝ }
-{
-    Answer {
-        outcome,
-        totals: none_yet(),
-        memory,
-        last,
-    }
-}
-
-// One day: tests 1 to 10, then the five results and the two stores of every cell, the totals, the next memory and the serial.
+// One day: tests 1 to 10, then the five results and the two stores of every cell, the totals, the next memory and the serial. A day refused hands
+// back what it was given, and no totals.
 pub fn day(
-    setup: Setup,
+    grid: Grid,
+    season: Season,
     covers: &[u32],
     direction: &[u32],
     cover: &[u32],
@@ -44,15 +36,19 @@ pub fn day(
     evapotranspired: &mut [u32],
     recharged: &mut [u32],
     rejected: &mut [u32],
-    memory: Memory,
-    last: Last,
+    past: Past,
     day: DayRecord,
 ) -> Answer
-    ensures { λ r. ⌜ answered r (now (soil .exit)) (now (snow .exit)) (now (intercepted .exit)) (now (outflow .exit)) (now (evapotranspired .exit)) (now (recharged .exit)) (now (rejected .exit)) ≡ dayOf (setupOf setup (now (covers .entry)) (now (direction .entry)) (now (cover .entry)) (now (group .entry)) (now (water .entry))) (stateOf (now (soil .entry)) (now (snow .entry)) memory last) (resultsOf (now (intercepted .entry)) (now (outflow .entry)) (now (evapotranspired .entry)) (now (recharged .entry)) (now (rejected .entry))) (dayIn day) ⌝ }
+    ensures { λ r. ⌜ outcomeAs r (now (soil .exit)) (now (snow .exit))
+        (resultsAs (now (intercepted .exit)) (now (outflow .exit)) (now (evapotranspired .exit)) (now (recharged .exit)) (now (rejected .exit)))
+        ≡ dayOf (setupAs grid season (now (covers .entry)) (now (direction .entry)) (now (cover .entry)) (now (group .entry)) (now (water .entry)))
+        (stateAs (now (soil .entry)) (now (snow .entry)) past)
+        (resultsAs (now (intercepted .entry)) (now (outflow .entry)) (now (evapotranspired .entry)) (now (recharged .entry)) (now (rejected .entry))) (dayAs day) ⌝ }
 {
-    let mut slot = [0u32; 4096];
-    let mut way = [0u32; 4096];
-    let mut turn = [0u32; 4096];
+    let mut slots = [0u8; MOST_CELLS];
+    let mut ways = [0u32; MOST_CELLS];
+    let mut order = [0u32; MOST_CELLS];
+    let mut plots = [0u32; PLOT_ROOM];
     let lengths = Lengths {
         intercepted: intercepted.len(),
         outflow: outflow.len(),
@@ -60,8 +56,9 @@ pub fn day(
         recharged: recharged.len(),
         rejected: rejected.len(),
     };
-    let outcome = admit(
-        setup,
+    let tested = tests(
+        grid,
+        season,
         covers,
         direction,
         cover,
@@ -70,25 +67,27 @@ pub fn day(
         soil,
         snow,
         lengths,
-        memory,
-        last,
+        past,
         day,
-        &mut slot,
-        &mut way,
-        &mut turn,
+        &mut slots,
+        &mut ways,
+        &mut order,
+        &mut plots,
     );
-    let Outcome::Accepted = outcome else {
-        return refused(outcome, memory, last);
+    let verdict = tested.verdict;
+    let Verdict::Accepted = verdict else {
+        return Answer {
+            verdict,
+            totals: Totals::none(),
+            past,
+        };
     };
-    let today = today_of(setup, memory, day);
-    let mut shared = [0u32; 1536];
-    plots(today, covers, &mut shared);
     let totals = downhill(
-        today,
-        &shared,
-        &slot,
-        &way,
-        &turn,
+        tested.today,
+        &plots,
+        &slots,
+        &ways,
+        &order,
         water,
         soil,
         snow,
@@ -98,10 +97,14 @@ pub fn day(
         recharged,
         rejected,
     );
-    Answer {
-        outcome,
-        totals,
+    let memory = past.memory;
+    let next = Past {
         memory: memory.next(day.gross),
         last: Last::Serial(day.serial),
+    };
+    Answer {
+        verdict,
+        totals,
+        past: next,
     }
 }

@@ -4,7 +4,7 @@ use mathlib.Core.Path.{_≡_, refl, sym, ap, _∙_}
 use mathlib.Core.Bool.{Bool, true, false, cond, not, _&&_}
 use mathlib.Core.List.{List, [], _∷_}
 use Prim.Native.Nat.{ℕ, suc, _+_, _≤_, _<_, min}
-use native.Mathlib.Nat.{add-zero, zero-lt-suc, le-step}
+use native.Mathlib.Nat.{add-zero, zero-lt-suc, le-step, le-refl, lt-suc-self}
 use native.Mathlib.Omega.{arith}
 use lib.Dec.{leb, ltb}
 use lib.ListN.{length, getD}
@@ -12,17 +12,18 @@ use borrow.Author.Tests.{le-leb, le-ltb, lt-ltb, leb-true, eq-eqb, not-false}
 use Rattle.theory.specs.Lists.{madeOver}
 use Rattle.theory.specs.Lowest.{Found, lowest}
 use Rattle.theory.specs.Sums.{given}
-use Rattle.theory.proofs.Cases.{byCases, below-or-not, cond-true, cond-false, and-right, and-both}
+use Rattle.theory.proofs.Cases.{byCases, below-or-not, cond-true, cond-false, and-left, and-right, and-both}
 use Rattle.theory.proofs.LowestLaws.{lowest-cong}
 use Rattle.paper.specs.Limits.{mostSnow}
 use Rattle.paper.specs.Interception.{net}
 use Rattle.paper.specs.Setup.{Setup, Cell, cell, cells, gridFits, next}
-use Rattle.paper.specs.State.{State, storesFit, mostSoilOf, mostSnowOf, soilAt, snowAt, pastFits}
+use Rattle.paper.specs.State.{State, storesFit, mostSoilOf, mostSnowOf, soilAt, snowAt, memoryFits, pastFits}
 use Rattle.paper.specs.CellDay.{Today, figureOf, netOf, storeOf}
 use Rattle.paper.specs.Refusals.{Refusal, Test, accepted, judged, verdict, stateAt, snowfall, oneEach, stateFits, tooDeep}
 use Rattle.paper.specs.Day.{checkOf}
 use Rattle.paper.proofs.SetupLaws.{Charted}
 use Rattle.paper.proofs.RefusalLaws.{Passes, testAt, accepted-passes}
+use Rattle.covers.specs.Table.{EntriesFit}
 use Rattle.covers.specs.Slots.{openAt, seasonAt, cellFrom}
 use Rattle.survey.specs.Cells.{slotOf, SlotsFit}
 use Rattle.survey.proofs.CellLaws.{cell-is}
@@ -46,6 +47,13 @@ ninth s st = record { places = suc (cells s); fails = λ i. not (stateFits s st 
 
 abbrev pub tenth : Setup → State → Today → Test
 tenth s st t = record { places = cells s; fails = λ i. tooDeep (cell s i) t (snowAt st i); called = snowfall }
+
+-- a state that passes test 9 has a memory within its limits
+pub memory-kept : (s : Setup) (st : State) → verdict (ninth s st ∷ []) ≡ accepted → memoryFits (st .past .memory) ≡ true
+unfolding Passes testAt stateFits pastFits
+memory-kept s st v =
+    let stands : stateFits s st (cells s) ≡ true = not-false _ (accepted-passes (ninth s st ∷ []) v 0 (zero-lt-suc 0) (cells s) (lt-suc-self (cells s))) in
+    and-left _ _ (sym (cond-false (ltb (cells s) (cells s)) (le-ltb (cells s) (cells s) (le-refl (cells s))) _ _) ∙ stands)
 
 -- two tests of the same places that fail alike
 alike : (n : ℕ) (f g : ℕ → Bool) (called : ℕ → Refusal) → ((i : ℕ) → i < n → f i ≡ g i)
@@ -91,6 +99,9 @@ module _ (s : Setup) (st : State) (slots : List ℕ) (ok : Surveyed s st slots) 
 
   slotted : SlotsFit (s .covers) (cells s) slots (s .water)
   slotted = slots-fit s charted (ok .lent) slots (ok .slots-are) (ok .slots-sized) waters
+
+  pub table : EntriesFit (s .covers)
+  table = slotted .table
 
   cell-of : (i : ℕ) → i < cells s → cellFrom (s .covers) (getD slots i 0) (getD (s .water) i 0) (next s i) ≡ cell s i
   cell-of i h = rw (slot-at s charted (ok .lent) slots (ok .slots-are) (ok .slots-sized) waters i h) (sym (cell-is s charted i h))

@@ -1,0 +1,82 @@
+-- `tests::tests` meets its contract: each way out is the verdict of the tests up to there, which decides all ten; past the last, the arrays are the
+-- survey's and the day's.
+use mathlib.Core.Bool.{true}
+use mathlib.Core.List.{List, [], _∷_}
+use mathlib.Core.Path.{_≡_, sym, _∙_}
+use Prim.Native.Nat.{ℕ}
+use lib.ListN.{length}
+use types.Run.{miss}
+use borrow.Author.Needs.{needs}
+use Rattle.paper.specs.Setup.{Setup, cells}
+use Rattle.paper.specs.State.{State}
+use Rattle.paper.specs.Refusals.{oneEach}
+use Rattle.records.specs.Grids.{setupAs}
+use Rattle.records.specs.Past.{stateAs}
+use Rattle.records.specs.Days.{dayAs}
+use Rattle.records.proofs.VerdictLaws.{accepted-back}
+use Rattle.recharge.specs.Tests.{dayLengths}
+use Rattle.recharge.proofs.TestLaws.{lent-passes, two-each, lent-decides, survey-decides, day-decides}
+use Rattle.recharge.proofs.tests.tests.Statement.{statement}
+use Rattle.recharge.proofs.tests.tests.Tie as tie
+
+-- what was handed over, as the paper's
+abbrev setup : tie.Start → Setup
+setup s =
+    setupAs (s .args .grid) (s .args .season) (s .args .covers .now) (s .args .direction .now) (s .args .cover .now) (s .args .group .now)
+    (s .args .water .now)
+
+abbrev state : tie.Start → State
+state s = stateAs (s .args .soil .now) (s .args .snow .now) (s .args .past)
+
+abbrev more : tie.Start → List ℕ
+more s = dayLengths (length (s .args .soil .now)) (length (s .args .snow .now)) (s .args .results)
+
+abbrev start : tie.After-lent-fit → tie.Start
+start c = c .before .before .before .before .before .before .before .before .before
+
+returns : tie.Need-returns
+returns c =
+    let lent = c .before .before in
+    let s = start lent in
+    lent-decides (setup s) (more s) (state s) (dayAs (s .args .day)) _ _ _ _ (lent .before .today-of .ensures) _ _ _ _ (lent .lent-fit .ensures)
+    (λ e. miss (1 ∷ []) 0 tt (rw e at (c .before .match .keys2)))
+
+-- the stores and the results have one entry a cell
+each : (c : tie.After-enum-told) → oneEach (cells (setup (start (c .before .before)))) (more (start (c .before .before))) ≡ true
+each c = lent-passes _ _ (accepted-back _ (sym (c .enum-told .given .1) ∙ c .before .before .lent-fit .ensures))
+
+returns-2 : tie.Need-returns-2
+returns-2 c =
+    let surveyed = c .before .before in
+    let told = surveyed .before .before .before .before in
+    let lent = told .before .before in
+    let s = start lent in
+    survey-decides (setup s) (more s) (state s) (dayAs (s .args .day)) _ _ _ _ (lent .before .today-of .ensures) _ _ _ _ (each told) (surveyed .survey .ensures)
+    (λ e. miss (1 ∷ []) 0 tt (rw e at (c .before .match2 .keys2)))
+
+returns-3 : tie.Need-returns-3
+returns-3 c =
+    let passed = c .before .before .before in
+    let surveyed = passed .before .before in
+    let told = surveyed .before .before .before .before in
+    let lent = told .before .before in
+    let s = start lent in
+    let sizes = two-each _ _ _ _ (each told) in
+    day-decides (setup s) (more s) (state s) (dayAs (s .args .day)) _ _ _ _ (lent .before .today-of .ensures) _ _ _ _ (each told) _ (surveyed .survey .ensures)
+    (passed .enum-told3 .given .1) (sizes .0) (sizes .1) (c .day-tests .ensures .0) (c .day-tests .ensures .1)
+
+pub tests-spec : {M : Type 1} → statement M
+tests-spec =
+    tie.close
+    (tie.spec
+    (λ c κs. search needs)
+    (λ c κs. search needs)
+    (λ c. search needs)
+    (λ c. search needs)
+    returns
+    (λ c κs. search needs)
+    (λ c. search needs)
+    (λ c. search needs)
+    returns-2
+    (λ c κs. search needs)
+    returns-3)

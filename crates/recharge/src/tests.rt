@@ -1,0 +1,163 @@
+// The ten tests of a day, in the order of the numbers.
+ghost use mathlib.Core.Path.{_≡_};
+ghost use lib.ListN.{length};
+ghost use Rattle.paper.specs.Refusals.{verdict};
+ghost use Rattle.records.specs.Grids.{gridAs, setupAs};
+ghost use Rattle.records.specs.Past.{pastAs, stateAs};
+ghost use Rattle.records.specs.Days.{dayAs};
+ghost use Rattle.records.specs.Verdicts.{verdictIn};
+ghost use Rattle.weather.specs.Today.{todayAs};
+ghost use Rattle.covers.specs.Plots.{plotsOf};
+ghost use Rattle.stores.specs.States.{lentTests};
+ghost use Rattle.recharge.specs.Tests.{dayLengths, laterTests, AllTested};
+use covers::PLOT_ROOM;
+use covers::lay_plots;
+use records::DayRecord;
+use records::Grid;
+use records::MOST_CELLS;
+use records::Past;
+use records::Refusal;
+use records::Season;
+use records::Verdict;
+use records::results_each;
+use records::stores_each;
+use stores::snow_verdict;
+use stores::state_verdict;
+use survey::survey;
+use weather::Today;
+use weather::today_of;
+
+// The lengths of the lent results.
+pub(crate) struct Lengths {
+    pub(crate) intercepted: usize,
+    pub(crate) outflow: usize,
+    pub(crate) evapotranspired: usize,
+    pub(crate) recharged: usize,
+    pub(crate) rejected: usize,
+}
+
+// The verdict of the ten tests, and the day's weather, which is worked out once.
+pub(crate) struct Tested {
+    pub(crate) verdict: Verdict,
+    pub(crate) today: Today,
+}
+
+// Tests 1 and 2 of the stores and the results: the survey tests the setup's own slices.
+fn lent_fit(grid: Grid, soil: usize, snow: usize, results: Lengths) -> Verdict
+    ensures { λ r. ⌜ r ≡ verdictIn (verdict (lentTests (gridAs grid) (dayLengths soil snow results))) ⌝ }
+{
+    if !grid.fits() {
+        return Verdict::Refused(Refusal::Grid);
+    }
+    let n = grid.cells();
+    if !stores_each(n, soil, snow) {
+        return Verdict::Refused(Refusal::Lent);
+    }
+    if !results_each(
+        n,
+        results.intercepted,
+        results.outflow,
+        results.evapotranspired,
+        results.recharged,
+        results.rejected,
+    ) {
+        return Verdict::Refused(Refusal::Lent);
+    }
+    Verdict::Accepted
+}
+
+// Tests 7 to 10. What the cells of each slot share is laid out first, since test 10 reads the snowfall there.
+fn day_tests(
+    grid: Grid,
+    today: Today,
+    covers: &[u32],
+    slots: &[u8; MOST_CELLS],
+    water: &[u32],
+    soil: &[u32],
+    snow: &[u32],
+    past: Past,
+    day: DayRecord,
+    plots: &mut [u32; PLOT_ROOM],
+) -> Verdict
+    ensures { λ r. ⌜ (now (plots .exit) ≡ plotsOf (todayAs today) (now (covers .entry)) (now (plots .entry)))
+        × (r ≡ verdictIn (verdict (laterTests (gridAs grid) (now (covers .entry)) (now (slots .entry)) (now (water .entry)) (now (soil .entry)) (now (snow .entry))
+        (pastAs past) (dayAs day) (now (plots .exit))))) ⌝ }
+{
+    lay_plots(today, covers, plots);
+    let last = past.last;
+    if !day.fits() {
+        return Verdict::Refused(Refusal::DayRecord);
+    }
+    if !last.is_followed_by(day.serial) {
+        return Verdict::Refused(Refusal::SerialGap);
+    }
+    let state = state_verdict(grid, covers, slots, water, soil, snow, past);
+    let Verdict::Accepted = state else {
+        return state;
+    };
+    snow_verdict(plots, slots, snow)
+}
+
+// Tests 1 to 10, which leave the arrays of the setup and of the day where they all pass.
+pub(crate) fn tests(
+    grid: Grid,
+    season: Season,
+    covers: &[u32],
+    direction: &[u32],
+    cover: &[u32],
+    group: &[u32],
+    water: &[u32],
+    soil: &[u32],
+    snow: &[u32],
+    results: Lengths,
+    past: Past,
+    day: DayRecord,
+    slots: &mut [u8; MOST_CELLS],
+    ways: &mut [u32; MOST_CELLS],
+    order: &mut [u32; MOST_CELLS],
+    plots: &mut [u32; PLOT_ROOM],
+) -> Tested
+    ensures { λ r. ⌜ AllTested (setupAs grid season (now (covers .entry)) (now (direction .entry)) (now (cover .entry)) (now (group .entry)) (now (water .entry)))
+        (dayLengths (length (now (soil .entry))) (length (now (snow .entry))) results) (stateAs (now (soil .entry)) (now (snow .entry)) past) (dayAs day)
+        (now (slots .entry)) (now (ways .entry)) (now (plots .entry)) r (now (slots .exit)) (now (ways .exit)) (now (order .exit)) (now (plots .exit)) ⌝ }
+{
+    let today = today_of(season, past, day);
+    let lent = lent_fit(grid, soil.len(), snow.len(), results);
+    let Verdict::Accepted = lent else {
+        return Tested {
+            verdict: lent,
+            today,
+        };
+    };
+    let surveyed = survey(
+        grid,
+        season,
+        covers,
+        direction,
+        cover,
+        group,
+        water,
+        slots,
+        ways,
+        order,
+    );
+    let Verdict::Accepted = surveyed else {
+        return Tested {
+            verdict: surveyed,
+            today,
+        };
+    };
+    let verdict = day_tests(
+        grid,
+        today,
+        covers,
+        slots,
+        water,
+        soil,
+        snow,
+        past,
+        day,
+        plots,
+    );
+    Tested { verdict, today }
+}
