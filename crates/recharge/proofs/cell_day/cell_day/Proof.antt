@@ -52,7 +52,7 @@ cast-t20 : tie.Need-cast-t20
 cast-t20 c = omega (arith, fits (c .before .before .before .before .before) .rejected)
 
 cast-t21 : tie.Need-cast-t21
-cast-t21 c = omega (arith, fits (c .before .before .before .before .before .before) .soil)
+cast-t21 c = let d = c .before .before .before .before .before .before in omega (arith, fits d .soil, d .before .before .before .before .before .before .before .before .before .pre .held, d .before .before .before .before .before .before .before .before .before .pre .plot .capacity)
 
 cast-t22 : tie.Need-cast-t22
 cast-t22 c = omega (arith, c .before .beyond2 .ensures, fits (c .before .before .before .before .before .before .before .before) .snow)

@@ -10,7 +10,7 @@ use Rattle.recharge.proofs.ways.hand_on.Tie as tie
 add-arrived : tie.Need-add-arrived
 add-arrived c =
     let at = c .before .before in
-    record { fits = rw (at .place .ensures) (at .before .pre .1 (omega (arith, at .place .ensures))) }
+    record { fits = rw (at .place .ensures) (omega (arith, at .before .pre .1 (omega (arith, at .place .ensures)))) }
 
 returns : tie.Need-returns
 unfolding addedAt
