@@ -1,37 +1,21 @@
 -- The paper's answers as C gets them: a call whose fixed slices have their lengths hands back the paper's answer, number by number; one with
 -- another length hands back what was lent. A refused call writes the memory and the last serial as they were.
-use mathlib.Core.Bool.{Bool, true, false, _&&_}
+use mathlib.Core.Bool.{true, false}
 use mathlib.Core.List.{List, [], _∷_}
 use mathlib.Core.Path.{_≡_, refl, sym, ap, _∙_}
 use Prim.Native.Nat.{ℕ, _<_, _≤_}
 use native.Mathlib.Omega.{arith}
 use lib.Dec.{eqb}
-use lib.ListN.{length, getD}
+use lib.ListN.{length}
 use borrow.Author.Tests.{eq-eqb, eqb-true}
 use Rattle.theory.proofs.Cases.{byCases, and-both, and-first, and-second, cond-true, cond-false}
 use Rattle.paper.specs.Setup.{Setup}
-use Rattle.paper.specs.State.{Memory, State, Day, Last, none, serial, noRain, remembered, freshState}
-use Rattle.paper.specs.Refusals.{Verdict, accepted, refused, lent, numberOf, placeOf, verdictNumber, verdictPlace}
+use Rattle.paper.specs.State.{Memory, State, Day, Last, noRain, remembered, freshState}
+use Rattle.paper.specs.Refusals.{Verdict, accepted, refused, numberOf, placeOf, verdictNumber, verdictPlace}
 use Rattle.paper.specs.Day.{Fresh, freshAs, freshOf, Outcome, Results, verdictOf, outcomeAs, nextState, dayOf}
 use Rattle.clib.specs.Narrow.{narrow, Narrow}
 use Rattle.clib.specs.Numbers.{returned, memoryFrom, memoryList, noSerial, lastFrom, lastNumber, lastList, totalsList}
-use Rattle.clib.specs.Handed.{
-  Stores,
-  storesFrom,
-  stateFrom,
-  storesOf,
-  Begun,
-  begun,
-  keepable,
-  begunAs,
-  begunIf,
-  freshFrom,
-  Handed,
-  handed,
-  handedAs,
-  handedIf,
-  dayGives,
-}
+use Rattle.clib.specs.Handed.{Stores, storesFrom, stateFrom, storesOf, begun, keepable, begunAs, begunIf, freshFrom, handed, handedAs, handedIf, dayGives}
 use Rattle.clib.proofs.PlaceLaws.{setup-near, day-near}
 
 -- nothing is lost between C's numbers and the paper's: what was read is written as it was

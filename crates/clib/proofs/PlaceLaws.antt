@@ -1,36 +1,20 @@
 -- A refusal's place is at most 4,096, so that it fits the number that a call returns: every place of a test is an entry
 -- of a table of 64, a cell, or the cell count, and cells are looked at only where the grid fits.
-use mathlib.Core.Bool.{Bool, true, false, _&&_}
+use mathlib.Core.Bool.{_&&_}
 use mathlib.Core.List.{List, [], _∷_, _++_}
-use mathlib.Core.Path.{_≡_, refl, ap}
+use mathlib.Core.Path.{_≡_, refl}
 use Prim.Native.Nat.{ℕ, _%_, _<_, _≤_}
 use native.Mathlib.Omega.{arith}
 use lib.Dec.{eqb, leb}
 use lib.ListN.{length}
 use borrow.Author.Tests.{leb-true}
 use Rattle.theory.specs.Lowest.{Found, at, nowhere, lowest}
-use Rattle.theory.proofs.Cases.{byCases, and-left, and-right, cond-true, cond-false}
+use Rattle.theory.proofs.Cases.{byCases, and-right, cond-true, cond-false}
 use Rattle.theory.proofs.LowestLaws.{lowest-at}
-use Rattle.paper.specs.Limits.{mostCells, mostCovers, within}
 use Rattle.paper.specs.Covers.{entries, sizeFits}
 use Rattle.paper.specs.Setup.{Setup, Grid, cellsIn, gridFits}
 use Rattle.paper.specs.State.{State, Day}
-use Rattle.paper.specs.Refusals.{
-  grid,
-  placeOf,
-  verdictPlace,
-  Verdict,
-  accepted,
-  refused,
-  Test,
-  verdict,
-  single,
-  judged,
-  coverPlaces,
-  setupTests,
-  mapTests,
-  dayTests,
-}
+use Rattle.paper.specs.Refusals.{grid, placeOf, verdictPlace, Test, verdict, single, judged, coverPlaces, setupTests, mapTests, dayTests}
 use Rattle.paper.specs.Day as paper
 use Rattle.paper.proofs.RefusalLaws.{fail-single, pass-single}
 

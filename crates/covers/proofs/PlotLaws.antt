@@ -3,7 +3,7 @@
 use mathlib.Core.Path.{_≡_, refl, ap, sym, _∙_}
 use mathlib.Core.Bool.{Bool, true, false, cond, not}
 use mathlib.Core.List.{List, [], _∷_}
-use Prim.Native.Nat.{ℕ, _+_, _-_, _*_, _/_, _%_, _≤_, _<_, min, zero-le}
+use Prim.Native.Nat.{ℕ, _+_, _-_, _*_, _/_, _%_, _≤_, _<_, min}
 use native.Mathlib.Nat.{mul-zero}
 use native.Mathlib.Omega.{arith}
 use lib.Dec.{eqb, leb}
@@ -16,14 +16,14 @@ use Rattle.theory.proofs.ListLaws.{wrote, over-at}
 use Rattle.paper.specs.Limits.{within, mostGross, leastCurveNumber, mostCurveNumber}
 use Rattle.paper.specs.Covers.{entries, numberOf, openOf, curveNumberOf, largestOf, growingOf, dormantOf, rootDepthOf}
 use Rattle.paper.specs.Interception.{intercepted, net}
-use Rattle.paper.specs.CurveNumber.{Condition, curveNumber}
+use Rattle.paper.specs.CurveNumber.{Condition}
 use Rattle.paper.specs.State.{mostSoilOf}
 use Rattle.paper.specs.CellDay.{Today, figureOf, interceptedOf, netOf, rainOf}
 use Rattle.paper.proofs.CurveNumberLaws.{curve-number-limits}
 use Rattle.weather.specs.Conditions.{curveNumberIn}
 use Rattle.weather.proofs.TodayLaws.{table-number}
 use Rattle.covers.specs.Slots.{openAt, seasonAt, groupNumberAt, cellFrom}
-use Rattle.covers.specs.Plots.{heldOf, wetOf, fallOf, curveOf, curveIn, drainOf, sharedBy, plotNumber, plotsOf, Plot, plotFor, plotAt, plotIn}
+use Rattle.covers.specs.Plots.{heldOf, wetOf, fallOf, curveOf, curveIn, drainOf, sharedBy, plotNumber, plotsOf, plotFor, plotAt, plotIn}
 
 -- a number of 32 bits is one again in any condition
 pub curve-small : (condition : Condition) (N : ℕ) → N < 4294967296 → curveNumberIn condition N < 4294967296

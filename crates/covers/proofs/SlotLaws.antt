@@ -1,7 +1,7 @@
 -- What a slot of a table that fits finds there: a whole entry of the table, with its numbers within the paper's limits. The entry's test has
 -- the tests of all four groups, and the slot's group is one of them. And by the array of root depths a cell's soil holds its available water
 -- times its slot's number, whatever the table.
-use mathlib.Core.Path.{_≡_, refl, sym, ap, _∙_}
+use mathlib.Core.Path.{_≡_, refl, sym, _∙_}
 use mathlib.Core.Bool.{Bool, true, cond}
 use mathlib.Core.List.{List}
 use Prim.Native.Nat.{ℕ, zero, suc, _+_, _*_, _/_, _%_, _≤_, _<_, min, zero-le}

@@ -14,36 +14,13 @@ use Rattle.theory.specs.Ways.{walk, onRing}
 use Rattle.paper.specs.Covers.{entries, sizeFits, groupFits, rises, entryFits}
 use Rattle.paper.specs.Directions.{wayOf, stepped, cellAt, goesBy}
 use Rattle.paper.specs.Setup.{Setup, Cell, cell, cellsIn, gridFits, seasonFits, growing, placeOr, entryOf, cellFits, isOpen, goes, pointed, next, isClosed}
-use Rattle.paper.specs.State.{
-  Memory,
-  Past,
-  Last,
-  none,
-  serial,
-  State,
-  Day,
-  noRain,
-  noPast,
-  remembered,
-  fiveDays,
-  mostSoilOf,
-  mostSnowOf,
-  storesFit,
-  memoryFits,
-  lastFits,
-  pastFits,
-  dayFits,
-  follows,
-  freshState,
-}
+use Rattle.paper.specs.State.{Memory, none, serial, State, Day, noRain, noPast, remembered, fiveDays, mostSoilOf, mostSnowOf, storesFit, memoryFits, lastFits, pastFits, dayFits, follows, freshState}
 use Rattle.paper.specs.Interception.{intercepted, net}
-use Rattle.paper.specs.Snow.{fallsAsSnow, aboveFreezing, meltable, melt}
-use Rattle.paper.specs.CurveNumber.{Condition, I, II, III, class, conditionOf, nearest, curveNumber}
-use Rattle.paper.specs.Outflow.{excess, spread, outflow}
-use Rattle.paper.specs.Retention.{F, between, L, loss}
-use Rattle.paper.specs.Soil.{surplus, wetDay, dryDay, soilDay}
-use Rattle.paper.specs.CellDay.{today, figureOf, interceptedOf, netOf, rainOf, storeOf, meltOf, ownOf, passedOf, openDay, groundOf, landDay, cellDay}
-use Rattle.paper.specs.Flow.{arriving, waterFrom, water}
+use Rattle.paper.specs.Snow.{fallsAsSnow, aboveFreezing, meltable}
+use Rattle.paper.specs.CurveNumber.{I, II, III, class, conditionOf}
+use Rattle.paper.specs.Outflow.{outflow}
+use Rattle.paper.specs.CellDay.{today, figureOf, netOf, storeOf}
+use Rattle.paper.specs.Flow.{water}
 use Rattle.paper.specs.Refusals.{
   numberOf,
   placeOf,
@@ -62,27 +39,7 @@ use Rattle.paper.specs.Refusals.{
   tooDeep,
   dayTests,
 }
-use Rattle.paper.specs.Day.{
-  passed,
-  own,
-  inflow,
-  figures,
-  isLeaving,
-  isGone,
-  Results,
-  Totals,
-  noTotals,
-  resultsOf,
-  totalsOf,
-  nextState,
-  lengthsOf,
-  verdictOf,
-  figuresOf,
-  outcomeAs,
-  dayOf,
-  freshAs,
-  freshOf,
-}
+use Rattle.paper.specs.Day.{Results, noTotals, lengthsOf, verdictOf}
 
 -- a cover entry with 16 numbers of its own: each is read where it should be
 abbrev told : List ℕ

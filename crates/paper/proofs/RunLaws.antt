@@ -1,7 +1,7 @@
 -- Demand 3. On one day the wetter state's cells pass on no less water, so that no less arrives below them, and every figure of every cell is
 -- no smaller; both days have the same gross precipitation and intercept the same, so that by the two accounts the extra stored before is
 -- the extra that leaves and the extra stored after. A run keeps both, day by day.
-use mathlib.Core.Path.{_≡_, refl, sym, ap, _∙_, subst}
+use mathlib.Core.Path.{_≡_, sym, ap, _∙_, subst}
 use mathlib.Core.List.{List, [], _∷_}
 use Prim.Native.Nat.{ℕ, zero, suc, _+_, _-_, _≤_, _<_, zero-le}
 use native.Mathlib.Nat.{le-refl, add-sub-of-le, add-le-add, not-suc-le-zero, le-of-suc-le-suc}

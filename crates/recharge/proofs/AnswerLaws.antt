@@ -1,20 +1,19 @@
 -- A day's answer is the paper's. What the tests pass gives the pass downhill all it asks for; the plot of each cell's slot is that of the paper's cell,
 -- so that the figures of the pass are the paper's, in which what arrives at each cell is rule 4's; and a refused day hands back what it was given.
 use mathlib.Core.Path.{_≡_, refl, sym, ap, ap₂, _∙_}
-use mathlib.Core.Bool.{Bool, true, false}
+use mathlib.Core.Bool.{Bool, true}
 use mathlib.Core.List.{List}
-use Prim.Native.Nat.{ℕ, _+_, _*_, _/_, _%_, _≤_, _<_}
+use Prim.Native.Nat.{ℕ, _+_, _≤_, _<_}
 use native.Mathlib.Omega.{arith}
 use lib.Dec.{eqb}
 use lib.ListN.{length, getD}
 use borrow.Author.Tests.{eqb-true, ne-eqb}
 use Rattle.theory.specs.Lists.{made}
 use Rattle.theory.specs.Sums.{sum, given}
-use Rattle.theory.proofs.Cases.{and-left, and-right, byCases}
+use Rattle.theory.proofs.Cases.{and-left, and-right}
 use Rattle.theory.proofs.ListLaws.{made-cong, over-at}
 use Rattle.theory.proofs.SumLaws.{sum-cong}
 use Rattle.paper.specs.Limits.{mostGross}
-use Rattle.paper.specs.Covers.{entries}
 use Rattle.paper.specs.Directions.{Goes, to, leaves, stays, openWater}
 use Rattle.paper.specs.Setup.{Setup, cell, cells, waterOf, goes, pointed, next}
 use Rattle.paper.specs.State.{State, Day, Past, remembered, serial, soilAt, snowAt}
@@ -242,7 +241,7 @@ module _ (s : Setup) (st : State) (r : paper.Results) (d : Day) (before ways₀ 
   -- the whole answer of an accepted day
   pub accepted-answer : paper.verdictOf s st r d ≡ accepted → (o : code.Verdict) → o ≡ Accepted → (past : Past)
       → past ≡ record { memory = remembered (st .past .memory) (d .gross); last = serial (d .serial) } → (totals : Totals) (after : pass.Slices)
-      → pass.Ran t plots slots ways (s .water) slices totals after
+      → pass.Ran t plots slots ways (s .water) (st .soil) (st .snow) totals after
       → record {
         verdict = verdictAs o;
         results =

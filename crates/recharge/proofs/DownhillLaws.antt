@@ -4,7 +4,7 @@
 -- sum of all cells' own water.
 use mathlib.Core.Path.{_≡_, sym, ap, _∙_, subst}
 use mathlib.Core.List.{List}
-use Prim.Native.Nat.{ℕ, _+_, _*_, _≤_, _<_, zero-le}
+use Prim.Native.Nat.{ℕ, _+_, _≤_, _<_, zero-le}
 use native.Mathlib.Nat.{lt-of-lt-of-le, le-trans, mul-le-mul-right}
 use native.Mathlib.Omega.{arith}
 use lib.ListN.{length, getD, replicate}
@@ -159,7 +159,7 @@ module _
         (sums-room (t .gross) _ _ u (le-trans (p .within) (all .pointing .most)) (all .gross)
         (λ k l. fits all (o all .who k) (o all .placed k (lt-of-lt-of-le l (p .within)))))
 
-    pub pass-end : (r : Totals) → totalsAs r ≡ totals → length available ≤ u → Ran t plots slots ways available s₀ r s
+    pub pass-end : (r : Totals) → totalsAs r ≡ totals → length available ≤ u → Ran t plots slots ways available (s₀ .soil) (s₀ .snow) r s
     pass-end r e h =
         let last : u ≡ length available = omega (arith, p .within) in
         record {

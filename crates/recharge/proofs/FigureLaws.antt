@@ -1,6 +1,6 @@
 -- A cell's day by its plot and its way is the paper's, on open water too: its soil has nothing and is given nothing, so by its account nothing comes of
 -- it. And each figure is, by that account, at most what the cell had and was given, which fits 32 bits.
-use mathlib.Core.Path.{_≡_, refl, ap, sym, _∙_}
+use mathlib.Core.Path.{_≡_, refl, sym, _∙_}
 use mathlib.Core.Bool.{true, false, cond, not}
 use mathlib.Core.List.{List}
 use Prim.Native.Nat.{ℕ, _+_, _-_, _≤_, _<_, zero-le}

@@ -1,7 +1,6 @@
 -- The seven slices written along the order, one cell a turn: each is the lent one before the first turn, takes the figure of the cell whose turn it is,
 -- and has every cell's figure after the last.
 use mathlib.Core.Path.{_≡_, sym, ap}
-use mathlib.Core.List.{List}
 use Prim.Native.Nat.{ℕ, _+_, _≤_, _<_}
 use lib.ListN.{set}
 use Rattle.theory.specs.Lists.{madeAlong}

@@ -1,11 +1,10 @@
 -- A day's ten tests one after another: tests 1 and 2 of the stores and results, the survey's six, then the day's, the cells found by their slots.
 -- A refusal of some of them is the refusal of all; and where a setup passed, tests 7 to 10 by slots are the paper's.
 use mathlib.Core.Path.{_≡_, refl, sym, ap, _∙_, subst}
-use mathlib.Core.Bool.{Bool, true, false}
+use mathlib.Core.Bool.{true, false}
 use mathlib.Core.List.{List, [], _∷_, _++_}
 use Prim.Native.Nat.{ℕ, _≤_}
 use native.Mathlib.Omega.{arith}
-use lib.Dec.{eqb}
 use lib.ListN.{length}
 use borrow.Author.Tests.{eqb-true}
 use Rattle.theory.proofs.Cases.{byCases, and-left, and-right}
@@ -98,7 +97,7 @@ module _ (g : Grid) (covers slots water soil snow : List ℕ) (past : Past) (d :
     record-good e = pass-single _ _ dayRecord day ∙ pass-single _ _ serialGap e
 
 -- of a setup that passed, with its slots and the day's plots
-module _ (s : Setup) (st : State) (d : Day) (slots plots₀ : List ℕ) (ok : stores.Surveyed s st slots) (t : Today) (is : t ≡ todayIn (s .season) (st .past) d) where
+module _ (s : Setup) (st : State) (d : Day) (slots plots₀ : List ℕ) (ok : stores.Testable s st slots) (t : Today) (is : t ≡ todayIn (s .season) (st .past) d) where
   abbrev plots : List ℕ
   plots = plotsOf t (s .covers) plots₀
 
@@ -185,7 +184,7 @@ module _ (s : Setup) (more : List ℕ) (st : State) (d : Day) (held ways₀ plot
     day-decides v surveyed passed soils snows laid e =
         let setup : checkOf s ≡ accepted = accepted-back _ (sym passed ∙ surveyed .verdict-is) in
         let m : Mapped s held ways₀ slots ways order = surveyed .mapped setup in
-        let ok : stores.Surveyed s st slots
+        let ok : stores.Testable s st slots
         = record { passed = setup; lent = held; slots-are = m .slots-are; slots-sized = m .slots-sized; soils = soils; snows = snows } in
         let all : verdict (allTests s more st d) ≡ verdict (dayTests s st d)
         = accepted-then (dayTests s st d) (setupTests s (setupLengths s ++ more)) (more-fit s more each ∙ setup) in

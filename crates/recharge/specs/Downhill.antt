@@ -111,9 +111,7 @@ pub record Ready (t : Today) (plots slots ways order available : List ℕ) (s : 
   pub held : (i : ℕ) → i < length available → getD (s .soil) i 0 ≤ plotOfCell plots slots available i .capacity
   pub lying : (i : ℕ) → i < length available → getD (s .snow) i 0 + plotOfCell plots slots available i .snowfall ≤ mostSnow
 
--- every cell's stores and results, and the totals summed from them
-pub record Ran (t : Today) (plots slots ways available : List ℕ) (before : Slices) (totals : Totals) (after : Slices) : Type 0 where
-  pub summed :
-      totalsAs totals
-      ≡ totalsBy (length available) (t .gross) (figuresAt t plots slots ways available (before .soil) (before .snow)) (goneAt ways)
-  pub written : after ≡ slicesBy (length available) (figuresAt t plots slots ways available (before .soil) (before .snow))
+-- every cell's stores and results, from the stores before, and the totals summed from them
+pub record Ran (t : Today) (plots slots ways available soil snow : List ℕ) (totals : Totals) (after : Slices) : Type 0 where
+  pub summed : totalsAs totals ≡ totalsBy (length available) (t .gross) (figuresAt t plots slots ways available soil snow) (goneAt ways)
+  pub written : after ≡ slicesBy (length available) (figuresAt t plots slots ways available soil snow)

@@ -2,7 +2,6 @@
 // the totals, and what flows out of it is handed on before the next cell's turn comes.
 ghost use mathlib.Core.Path.{_≡_};
 ghost use Rattle.weather.specs.Today.{todayAs};
-ghost use Rattle.covers.specs.Plots.{plotIn};
 ghost use Rattle.recharge.specs.CellDay.{figuresAs};
 ghost use Rattle.recharge.specs.Downhill.{slicesOf, LentAt, dayAt, Ready, Ran};
 use crate::cell_day::Figures;
@@ -36,7 +35,8 @@ fn day_at(
     cell: usize,
 ) -> Figures
     requires { ⌜ LentAt (todayAs today) (now f) (now plots) (now slots) (now water) (now soil) (now snow) (now arrived) cell ⌝ }
-    ensures { λ r. ⌜ figuresAs r ≡ dayAt (todayAs today) (now (plots .entry)) (now (slots .entry)) (now (water .entry)) (now (soil .entry)) (now (snow .entry)) (now (arrived .entry)) (way .0) cell ⌝ }
+    ensures { λ r. ⌜ figuresAs r ≡ dayAt (todayAs today) (now (plots .entry)) (now (slots .entry)) (now (water .entry)) (now (soil .entry)) (now (snow .entry))
+        (now (arrived .entry)) (way .0) cell ⌝ }
 {
     let plot = plot_at(plots, small_place(slots[cell]), water[cell]);
     cell_day(
@@ -66,8 +66,11 @@ pub(crate) fn downhill(
     recharged: &mut [u32],
     rejected: &mut [u32],
 ) -> Totals
-    requires { ⌜ Ready (todayAs today) (now plots) (now slots) (now ways) (now order) (now water) (slicesOf (now soil) (now snow) (now intercepted) (now outflow) (now evapotranspired) (now recharged) (now rejected)) ⌝ }
-    ensures { λ r. ⌜ Ran (todayAs today) (now (plots .entry)) (now (slots .entry)) (now (ways .entry)) (now (water .entry)) (slicesOf (now (soil .entry)) (now (snow .entry)) (now (intercepted .entry)) (now (outflow .entry)) (now (evapotranspired .entry)) (now (recharged .entry)) (now (rejected .entry))) r (slicesOf (now (soil .exit)) (now (snow .exit)) (now (intercepted .exit)) (now (outflow .exit)) (now (evapotranspired .exit)) (now (recharged .exit)) (now (rejected .exit))) ⌝ }
+    requires { ⌜ Ready (todayAs today) (now plots) (now slots) (now ways) (now order) (now water)
+        (slicesOf (now soil) (now snow) (now intercepted) (now outflow) (now evapotranspired) (now recharged) (now rejected)) ⌝ }
+    ensures { λ r. ⌜ Ran (todayAs today) (now (plots .entry)) (now (slots .entry)) (now (ways .entry)) (now (water .entry)) (now (soil .entry)) (now (snow .entry)) r
+        (slicesOf (now (soil .exit)) (now (snow .exit)) (now (intercepted .exit)) (now (outflow .exit)) (now (evapotranspired .exit))
+        (now (recharged .exit)) (now (rejected .exit))) ⌝ }
 {
     let n = water.len();
     let gross = today.gross;

@@ -5,7 +5,7 @@ use Prim.Native.Nat.{ℕ}
 use Rattle.paper.specs.State as state
 use Rattle.paper.specs.Day as paper
 use Rattle.records.specs.Past.{lastAs, pastAs}
-use Rattle.records.specs.Verdicts.{verdictAs, verdictIn}
+use Rattle.records.specs.Verdicts.{verdictIn}
 use Rattle.records.specs.Answers.{freshAs, outcomeAs}
 use Rattle.records.specs.declared.past.Last.{Last}
 use Rattle.records.specs.declared.past.Last.the-variants.{Never, Serial}

@@ -1,12 +1,12 @@
 -- Test 10 by slots: a search over the stores finds the lowest that the snowfall would take past its limit.
-use mathlib.Core.Path.{_≡_, sym, ap, _∙_}
+use mathlib.Core.Path.{_≡_, sym, ap}
 use mathlib.Core.Bool.{true}
 use mathlib.Core.List.{List, []}
 use Prim.Native.Nat.{ℕ, _≤_, _<_, min}
 use lib.ListN.{length}
 use Rattle.theory.proofs.LowestLaws.{at-lowest, none-lowest}
 use native.Mathlib.Nat.{lt-of-lt-of-le}
-use Rattle.paper.specs.Refusals.{accepted, refused, verdict, snowfall}
+use Rattle.paper.specs.Refusals.{verdict}
 use Rattle.paper.proofs.RefusalLaws.{pass-many, fail-many}
 use Rattle.records.specs.Verdicts.{verdictIn}
 use Rattle.records.specs.declared.verdicts.Verdict.the-variants.{Accepted, Refused}

@@ -1,22 +1,21 @@
 -- Test 9 by slots: a cell's limits are those of its root depth and of open water; and the test looks at every cell's stores, and then, at the cell
 -- count, at the past.
-use mathlib.Core.Path.{_≡_, refl, sym, ap, _∙_}
+use mathlib.Core.Path.{_≡_, refl, ap, _∙_}
 use mathlib.Core.Bool.{Bool, true, false, cond, not, _&&_}
 use mathlib.Core.List.{List, [], _∷_}
 use Prim.Native.Nat.{ℕ, suc, _*_, _≤_, _<_}
 use native.Mathlib.Nat.{le-refl}
-use native.Mathlib.Omega.{arith}
 use lib.Dec.{leb, ltb}
 use lib.ListN.{length, getD}
 use borrow.Author.Tests.{lt-ltb, le-ltb, leb-true, eqb-true}
 use Rattle.theory.specs.Lists.{made}
 use Rattle.theory.specs.Lowest.{Found, at, nowhere, orAt, lowest}
-use Rattle.theory.proofs.Cases.{byCases, cond-true, cond-false, and-left, and-right}
+use Rattle.theory.proofs.Cases.{cond-true, cond-false, and-left, and-right}
 use Rattle.theory.proofs.LowestLaws.{lowest-cong}
 use Rattle.paper.specs.Limits.{mostSnow}
-use Rattle.paper.specs.Setup.{Grid, Cell, cellsIn, gridFits}
-use Rattle.paper.specs.State.{Past, mostSoilOf, mostSnowOf, pastFits}
-use Rattle.paper.specs.Refusals.{grid, lent, stateAt, accepted, refused, verdict, single, oneEach}
+use Rattle.paper.specs.Setup.{Grid, cellsIn, gridFits}
+use Rattle.paper.specs.State.{Past, mostSnowOf, pastFits}
+use Rattle.paper.specs.Refusals.{grid, lent, stateAt, accepted, refused, verdict, oneEach}
 use Rattle.paper.proofs.RefusalLaws.{pass-single, fail-single, pass-many, fail-many}
 use Rattle.covers.specs.Slots.{openAt, groupNumberAt, cellFrom}
 use Rattle.covers.proofs.SlotLaws.{soil-most, root-at}

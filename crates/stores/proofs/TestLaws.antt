@@ -1,7 +1,7 @@
 -- For the slots of a surveyed setup tests 9 and 10 by slots are the paper's: a cell's slot has the cell's own limits, and where no store is past its
 -- limit open water, on which nothing falls, is not too deep.
 use mathlib.Core.Path.{_≡_, refl, sym, ap, _∙_}
-use mathlib.Core.Bool.{Bool, true, false, cond, not, _&&_}
+use mathlib.Core.Bool.{Bool, true, cond, not, _&&_}
 use mathlib.Core.List.{List, [], _∷_}
 use Prim.Native.Nat.{ℕ, suc, _+_, _≤_, _<_, min}
 use native.Mathlib.Nat.{add-zero, zero-lt-suc, le-step, le-refl, lt-suc-self}
@@ -10,7 +10,7 @@ use lib.Dec.{leb, ltb}
 use lib.ListN.{length, getD}
 use borrow.Author.Tests.{le-leb, le-ltb, lt-ltb, leb-true, eq-eqb, not-false}
 use Rattle.theory.specs.Lists.{madeOver}
-use Rattle.theory.specs.Lowest.{Found, lowest}
+use Rattle.theory.specs.Lowest.{Found}
 use Rattle.theory.specs.Sums.{given}
 use Rattle.theory.proofs.Cases.{byCases, below-or-not, cond-true, cond-false, and-left, and-right, and-both}
 use Rattle.theory.proofs.LowestLaws.{lowest-cong}
@@ -28,12 +28,12 @@ use Rattle.covers.specs.Slots.{openAt, seasonAt, cellFrom}
 use Rattle.survey.specs.Cells.{slotOf, SlotsFit}
 use Rattle.survey.proofs.CellLaws.{cell-is}
 use Rattle.survey.proofs.MapLaws.{sound-setup, waters-each, slot-at, slots-fit}
-use Rattle.stores.specs.States.{storesFrom, storesAt, stateTest, stateTests}
+use Rattle.stores.specs.States.{storesFrom, storesAt, stateTests}
 use Rattle.stores.specs.Snowfall.{Falls, fallIn, deepIn, snowTests}
 use Rattle.stores.proofs.StateLaws.{test-nine}
 
 -- a setup that passed tests 1 to 6, with its slots, over whatever the array held, and a store an entry a cell
-pub record Surveyed (s : Setup) (st : State) (slots : List ℕ) : Type 0 where
+pub record Testable (s : Setup) (st : State) (slots : List ℕ) : Type 0 where
   pub passed : checkOf s ≡ accepted
   pub lent : List ℕ
   pub slots-are : slots ≡ madeOver (cells s) (slotOf s) lent
@@ -82,7 +82,7 @@ unfolding mostSnowOf
 snow-within c snow h =
     byCases (c .open?) (λ e. omega (arith, rw (cond-true (c .open?) e) at h)) (λ e. rw (cond-false (c .open?) e) at h)
 
-module _ (s : Setup) (st : State) (slots : List ℕ) (ok : Surveyed s st slots) where
+module _ (s : Setup) (st : State) (slots : List ℕ) (ok : Testable s st slots) where
   charted : Charted s
   charted = sound-setup s (ok .passed) .charted
 

@@ -41,10 +41,6 @@ module _ (s : Setup) where
     unfolding setupTests
     on-the-map g e = pass-single _ _ grid g ∙ pass-single _ _ lent e
 
-  pub few-cells : gridFits (s .grid) ≡ true → cells s ≤ 4096
-  unfolding gridFits
-  few-cells g = leb-true _ _ (search (and-left, and-right))
-
   pub surveyable : gridFits (s .grid) ≡ true → oneEach (cells s) (setupLengths s) ≡ true → Surveyable s
   unfolding gridFits setupLengths oneEach
   surveyable g e =

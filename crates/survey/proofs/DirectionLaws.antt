@@ -8,7 +8,7 @@ use native.Mathlib.Omega.{arith}
 use lib.Arith.{digits-div}
 use borrow.Author.Tests.{lt-ltb, le-ltb, ne-eqb}
 use Rattle.theory.specs.Lowest.{Found, at, nowhere}
-use Rattle.paper.specs.Directions.{more, Way, toward, closed, wayOf, stepped, cellAt, goesBy}
+use Rattle.paper.specs.Directions.{Way, toward, closed, wayOf, stepped, cellAt, goesBy}
 use Rattle.paper.specs.Setup.{pointed}
 use Rattle.survey.specs.Routes.{stepOf, goesFrom}
 

@@ -1,7 +1,6 @@
 -- `read_off` is safe and ends: c is a curve number from 5 on.
 use Prim.Native.Nat.{_-_, _≤_}
 use native.Mathlib.Omega.{arith}
-use borrow.Author.Needs.{needs}
 use Rattle.figures.proofs.read_off.Statement.{statement}
 use Rattle.figures.proofs.read_off.Tie as tie
 

@@ -2,7 +2,6 @@
 use borrow.Author.Needs.{needs}
 use Rattle.clib.proofs.state.keep_last.Statement.{statement}
 use Rattle.clib.proofs.state.keep_last.Tie as tie
-use mathlib.Core.List.{[], _∷_}
 use Rattle.clib.specs.Numbers.{lastList}
 use Rattle.clib.proofs.WriteLaws.{one-written}
 

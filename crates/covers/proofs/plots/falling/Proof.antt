@@ -1,5 +1,5 @@
 -- `plots::falling` meets its contract: both ways out are `given`'s.
-use mathlib.Core.Path.{_≡_, ap, sym}
+use mathlib.Core.Path.{ap, sym}
 use mathlib.Core.Bool.{Bool}
 use Rattle.theory.specs.Sums.{given}
 use borrow.Author.Needs.{needs}

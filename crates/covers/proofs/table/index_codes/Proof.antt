@@ -1,6 +1,6 @@
 -- `table::index_codes` meets its contract: the index holds the entries passed so far, and no later one has the code of an earlier.
 use native.Mathlib.Numerals.{add-one}
-use Prim.Native.Nat.{ℕ, _/_, _≤_, _<_, _-_}
+use Prim.Native.Nat.{_/_, _≤_, _<_, _-_}
 use mathlib.Core.Path.{_≡_, ap, _∙_}
 use native.Mathlib.Omega.{arith}
 use borrow.Author.Needs.{needs}

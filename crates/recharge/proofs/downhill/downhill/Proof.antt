@@ -1,5 +1,5 @@
 -- `downhill::downhill` meets its contract: the loop's invariant is the pass before the turn, and each turn is one turn of it.
-use mathlib.Core.Path.{_≡_, refl, sym, _∙_}
+use mathlib.Core.Path.{refl, sym, _∙_}
 use Prim.Native.Nat.{_-_, _<_}
 use native.Mathlib.Omega.{arith}
 use lib.ListN.{length}

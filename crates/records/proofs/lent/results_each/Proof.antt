@@ -1,6 +1,5 @@
 -- `lent::results_each` meets its contract: a test for each length.
 use Rattle.paper.specs.Refusals.{oneEach}
-use borrow.Author.Needs.{needs}
 use mathlib.Core.Path.{refl}
 use Rattle.records.proofs.lent.results_each.Statement.{statement}
 use Rattle.records.proofs.lent.results_each.Tie as tie

@@ -11,10 +11,8 @@ use borrow.Author.Tests.{not-true, not-false}
 use Rattle.paper.specs.Setup.{cellsIn, gridFits}
 use Rattle.paper.specs.Refusals.{oneEach}
 use Rattle.records.specs.Grids.{gridAs}
-use Rattle.records.specs.Past.{pastAs}
 use Rattle.records.specs.Verdicts.{verdictIn}
 use Rattle.records.specs.declared.verdicts.Refusal.the-variants as refusals
-use Rattle.records.specs.declared.verdicts.Verdict.{Verdict}
 use Rattle.records.specs.declared.verdicts.Verdict.the-variants.{Refused}
 use Rattle.records.proofs.PlaceLaws.{found-at, found-no}
 use Rattle.stores.proofs.StateLaws.{few-cells, three-each, grid-bad, lent-bad, store-bad, past-bad, state-good}

@@ -1,5 +1,4 @@
 -- `states::stores_fit` meets its contract: its limits are those of the cell of the slot.
-use native.Mathlib.Omega.{arith}
 use borrow.Author.Needs.{needs}
 use Rattle.theory.proofs.Widths.{product-fits}
 use Rattle.stores.proofs.StateLaws.{stores-limits}

@@ -1,6 +1,5 @@
 -- `conditions::class` meets its contract: each way out has the tests of the paper's case.
 use Rattle.paper.specs.CurveNumber.{class}
-use borrow.Author.Needs.{needs}
 use borrow.Author.Tests.{lt-ltb, le-ltb}
 use Rattle.weather.proofs.conditions.class.Statement.{statement}
 use Rattle.weather.proofs.conditions.class.Tie as tie

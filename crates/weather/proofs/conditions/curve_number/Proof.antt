@@ -1,6 +1,5 @@
 -- `conditions::curve_number` meets its contract: outside the table's limits the number comes back; in each condition the quotient is the paper's, and
 -- its divisor is above zero for a number up to 100.
-use mathlib.Core.Path.{sym, _∙_}
 use borrow.Author.Needs.{needs}
 use borrow.Author.Tests.{lt-leb, le-leb}
 use Rattle.paper.specs.CurveNumber.{curveNumber}

@@ -1,6 +1,5 @@
 -- `Season::fits` meets its contract: its tests are the paper's.
 use Rattle.paper.specs.Setup.{seasonFits}
-use borrow.Author.Needs.{needs}
 use mathlib.Core.Path.{refl}
 use Rattle.records.proofs.grids.Season.fits.Statement.{statement}
 use Rattle.records.proofs.grids.Season.fits.Tie as tie

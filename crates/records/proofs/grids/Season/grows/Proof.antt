@@ -1,6 +1,5 @@
 -- `Season::grows` meets its contract: its tests are the paper's.
 use Rattle.paper.specs.Setup.{growing}
-use borrow.Author.Needs.{needs}
 use mathlib.Core.Path.{refl}
 use Rattle.records.proofs.grids.Season.grows.Statement.{statement}
 use Rattle.records.proofs.grids.Season.grows.Tie as tie

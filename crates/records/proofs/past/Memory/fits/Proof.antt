@@ -1,6 +1,5 @@
 -- `Memory::fits` meets its contract: a test for each figure.
 use Rattle.paper.specs.State.{memoryFits}
-use borrow.Author.Needs.{needs}
 use mathlib.Core.Path.{refl}
 use Rattle.records.proofs.past.Memory.fits.Statement.{statement}
 use Rattle.records.proofs.past.Memory.fits.Tie as tie

@@ -1,6 +1,5 @@
 -- `Memory::next` meets its contract: the oldest figure dropped, today's added.
 use Rattle.paper.specs.State.{remembered}
-use borrow.Author.Needs.{needs}
 use mathlib.Core.Path.{refl}
 use Rattle.records.proofs.past.Memory.next.Statement.{statement}
 use Rattle.records.proofs.past.Memory.next.Tie as tie
