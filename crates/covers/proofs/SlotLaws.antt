@@ -5,19 +5,17 @@ use mathlib.Core.Path.{_≡_, refl, sym, _∙_}
 use mathlib.Core.Bool.{Bool, true, cond}
 use mathlib.Core.List.{List}
 use Prim.Native.Nat.{ℕ, zero, suc, _+_, _*_, _/_, _%_, _≤_, _<_, min, zero-le}
-use native.Mathlib.Nat.{mul-zero, mul-le-mul}
+use native.Mathlib.Nat.{mul-zero}
 use native.Mathlib.Omega.{arith}
 use lib.ListN.{length, getD, replicate, length-replicate, getD-replicate, List·getD-eq-default}
 use borrow.Author.Tests.{leb-true}
 use Rattle.theory.specs.Lists.{made, madeOver}
 use Rattle.theory.proofs.Cases.{and-left, and-right}
 use Rattle.theory.proofs.ListLaws.{made-at, over-whole}
-use Rattle.paper.specs.Covers.{numberOf, curveNumberOf, rootDepthOf, entries, groupFits, entryFits}
-use Rattle.paper.specs.CurveNumber.{Condition, curveNumber}
+use Rattle.paper.specs.Covers.{numberOf, rootDepthOf, entries, groupFits, entryFits}
 use Rattle.paper.specs.State.{mostSoilOf}
-use Rattle.paper.proofs.CurveNumberLaws.{UpTo100, curve-number-limits}
 use Rattle.covers.specs.Table.{EntriesFit}
-use Rattle.covers.specs.Slots.{openAt, groupNumberAt, cellFrom, mostCapacity}
+use Rattle.covers.specs.Slots.{openAt, groupNumberAt, cellFrom}
 
 -- past the table's numbers there is nothing
 pub past-table : (covers : List ℕ) (slot k : ℕ) → length covers / 16 < slot / 4 → 0 ≡ numberOf covers (slot / 4) k
@@ -75,25 +73,10 @@ module _ (covers : List ℕ) (fit : EntriesFit covers) (slot : ℕ) (h : slot < 
       four (λ k. groupFits covers (slot / 4) (k + 1) ≡ true) (search (and-left, and-right) depth 9) (search (and-left, and-right) depth 9)
       (search (and-left, and-right) depth 9) (search (and-left, and-right) depth 9) (slot % 4) (omega arith)
 
-  pub root-depth-limit : rootDepthOf covers (slot / 4) (slot % 4 + 1) ≤ 1000
+  root-depth-limit : rootDepthOf covers (slot / 4) (slot % 4 + 1) ≤ 1000
   unfolding groupFits
   root-depth-limit = let fits : groupFits covers (slot / 4) (slot % 4 + 1) ≡ true = group in leb-true _ _ (search (and-left, and-right) depth 6)
 
   pub root-most : groupNumberAt covers 11 slot ≤ 1000
   unfolding groupNumberAt
   root-most = given-most (openAt covers slot) _ 1000 root-depth-limit
-
-  pub number-least : 30 ≤ curveNumberOf covers (slot / 4) (slot % 4 + 1)
-  unfolding groupFits
-  number-least = let fits : groupFits covers (slot / 4) (slot % 4 + 1) ≡ true = group in leb-true _ _ (search (and-left, and-right) depth 6)
-
-  pub number-most : curveNumberOf covers (slot / 4) (slot % 4 + 1) ≤ 100
-  unfolding groupFits
-  number-most = let fits : groupFits covers (slot / 4) (slot % 4 + 1) ≡ true = group in leb-true _ _ (search (and-left, and-right) depth 6)
-
-  pub slot-number : (condition : Condition) → UpTo100 (curveNumber condition (curveNumberOf covers (slot / 4) (slot % 4 + 1)))
-  slot-number condition = curve-number-limits condition _ number-least number-most
-
-  pub slot-capacity : (water way : ℕ) → water ≤ 600 → cellFrom covers slot water way .capacity ≤ mostCapacity
-  unfolding cellFrom
-  slot-capacity water way w = mul-le-mul w root-depth-limit

@@ -3,19 +3,11 @@ ghost use mathlib.Core.Path.{_≡_};
 ghost use Prim.Native.Nat.{_+_, _*_, _/_, _%_, _≤_, _<_};
 ghost use Rattle.theory.specs.Lists.{made};
 ghost use Rattle.paper.specs.Covers.{numberOf};
-ghost use Rattle.covers.specs.Slots.{openAt, seasonAt, numberAt, groupNumberAt};
-use crate::table::CURVE_NUMBERS;
-use crate::table::DORMANT_FIGURE;
+ghost use Rattle.covers.specs.Slots.{openAt, groupNumberAt};
 use crate::table::ENTRY_NUMBERS;
-use crate::table::GROWING_FIGURE;
-use crate::table::LARGEST_RECHARGES;
 use crate::table::MOST_ENTRIES;
 use crate::table::OPEN_FLAG;
 use crate::table::ROOT_DEPTHS;
-use records::CurveNumber;
-use records::Depth;
-use records::depth;
-use records::wide;
 
 // Four slots an entry.
 pub const MOST_SLOTS: usize = 4 * MOST_ENTRIES;
@@ -54,22 +46,6 @@ pub fn is_open(covers: &[u32], slot: usize) -> bool
     number_at(covers, slot, OPEN_FLAG) == 1
 }
 
-pub fn table_number(covers: &[u32], slot: usize) -> CurveNumber
-    ensures { λ r. ⌜ r .0 ≡ numberAt (now (covers .entry)) slot ⌝ }
-{
-    CurveNumber(wide(number_at(covers, slot, CURVE_NUMBERS + (slot % 4 + 1))))
-}
-
-// The interception figure of the season.
-pub fn season_figure(covers: &[u32], slot: usize, growing: bool) -> Depth
-    ensures { λ r. ⌜ r .0 ≡ seasonAt (now (covers .entry)) slot growing ⌝ }
-{
-    if growing {
-        return depth(number_at(covers, slot, GROWING_FIGURE));
-    }
-    depth(number_at(covers, slot, DORMANT_FIGURE))
-}
-
 // The number that stands `base` + the slot's soil group places on in its entry; none on open water.
 fn group_number(covers: &[u32], base: usize, slot: usize) -> u32
     requires { ⌜ base ≤ 11 ⌝ }
@@ -79,12 +55,6 @@ fn group_number(covers: &[u32], base: usize, slot: usize) -> u32
         return NO_SOIL;
     }
     number_at(covers, slot, base + (slot % 4 + 1))
-}
-
-pub fn largest_recharge(covers: &[u32], slot: usize) -> Depth
-    ensures { λ r. ⌜ r .0 ≡ groupNumberAt (now (covers .entry)) 5 slot ⌝ }
-{
-    depth(group_number(covers, LARGEST_RECHARGES, slot))
 }
 
 // The root depth of every slot. Only the slots of which the table has a number are looked at: the others have none.

@@ -20,13 +20,13 @@ pub const ENTRY_NUMBERS: usize = 16;
 
 pub const MOST_ENTRIES: usize = 64;
 
-pub const MOST_CODE: u64 = 255;
+const MOST_CODE: u64 = 255;
 
 // The codes with 0, which no entry has.
 pub const CODES: usize = 256;
 
 // In hundredths of a foot.
-pub const MOST_ROOT_DEPTH: u64 = 1000;
+const MOST_ROOT_DEPTH: u64 = 1000;
 
 // Where an entry's numbers stand.
 pub const OPEN_FLAG: usize = 1;

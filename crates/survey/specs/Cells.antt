@@ -11,21 +11,17 @@ use Rattle.theory.specs.Lowest.{lowest}
 use Rattle.paper.specs.Limits.{within, mostCells, mostAvailableWater}
 use Rattle.paper.specs.Covers.{entries}
 use Rattle.paper.specs.Directions.{wayOf, goesBy}
-use Rattle.paper.specs.Setup.{Setup, Cell, entryOf, groupOf, pointed}
+use Rattle.paper.specs.Setup.{Setup, entryOf, groupOf, pointed}
 use Rattle.records.specs.Places.{placeIn}
 use Rattle.records.specs.declared.places.Place.{Place}
 use Rattle.records.specs.declared.places.Place.the-variants.{Nowhere}
 use Rattle.covers.specs.Table.{EntriesFit}
-use Rattle.covers.specs.Slots.{openAt, cellFrom}
+use Rattle.covers.specs.Slots.{openAt}
 use Rattle.survey.specs.Routes.{goesFrom}
 use Rattle.survey.specs.Peeling.{Counted}
 
 abbrev pub slotOf : Setup → ℕ → ℕ
 slotOf s i = 4 * entryOf s i + (groupOf s i - 1)
-
--- cell i of lists of slots, available water and ways
-abbrev pub cellIn : List ℕ → List ℕ → List ℕ → List ℕ → ℕ → Cell
-cellIn covers slots water ways i = cellFrom covers (getD slots i 0) (getD water i 0) (getD ways i 4097)
 
 -- a table that fits, and n cells that it has, in an array of slots
 pub record SlotsFit (covers : List ℕ) (n : ℕ) (slots water : List ℕ) : Type 0 where

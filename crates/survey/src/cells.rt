@@ -22,7 +22,7 @@ const NO_SLOT: usize = MOST_SLOTS;
 const GROUPS: u32 = 4;
 
 // In hundredths of an inch per foot.
-pub const MOST_AVAILABLE_WATER: u32 = 600;
+const MOST_AVAILABLE_WATER: u32 = 600;
 
 // A cell's slot, 4 × its cover's entry + its group - 1, where its three numbers are within their limits.
 fn slot(index: &[u8; CODES], code: u32, group: u32, water: u32) -> usize

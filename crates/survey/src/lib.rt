@@ -4,7 +4,6 @@ mod charts;
 mod order;
 mod ways;
 
-pub use cells::MOST_AVAILABLE_WATER;
 pub use charts::check;
 pub use charts::survey;
 pub use ways::CLOSED;
