@@ -12,7 +12,7 @@ use Rattle.paper.specs.Day as paper
 use Rattle.clib.specs.Numbers.{returned, memoryFrom, memoryList, lastFrom, lastList, totalsList}
 
 abbrev pub setupFrom : ℕ → ℕ → ℕ → ℕ → List ℕ → List ℕ → List ℕ → List ℕ → List ℕ → Setup
-setupFrom width height first last covers direction cover group water =
+setupFrom width height first last covers direction cover group available =
     record {
       grid = record { width = width; height = height };
       season = record { first = first; last = last };
@@ -20,7 +20,7 @@ setupFrom width height first last covers direction cover group water =
       direction = direction;
       cover = cover;
       group = group;
-      water = water;
+      available = available;
     }
 
 abbrev pub dayFrom : ℕ → ℕ → ℕ → ℤ → ℤ → ℤ → ℕ → Day

@@ -27,13 +27,14 @@ pub extern "C" fn recharge_check(
     direction: &[u32],
     cover: &[u32],
     group: &[u32],
-    water: &[u32],
+    available: &[u32],
 ) -> u64
-    ensures { λ r. ⌜ r ≡ returned (checkOf (setupFrom width height first last (now (covers .entry)) (now (direction .entry)) (now (cover .entry)) (now (group .entry)) (now (water .entry)))) ⌝ }
+    ensures { λ r. ⌜ r ≡ returned (checkOf
+        (setupFrom width height first last (now (covers .entry)) (now (direction .entry)) (now (cover .entry)) (now (group .entry)) (now (available .entry)))) ⌝ }
 {
     let grid = Grid { width, height };
     let season = Season { first, last };
-    returned_as(recharge::check(grid, season, covers, direction, cover, group, water))
+    returned_as(recharge::check(grid, season, covers, direction, cover, group, available))
 }
 
 #[no_mangle]
@@ -46,13 +47,15 @@ pub extern "C" fn recharge_fresh(
     direction: &[u32],
     cover: &[u32],
     group: &[u32],
-    water: &[u32],
+    available: &[u32],
     soil: &mut [u32],
     snow: &mut [u32],
     memory: &mut [u32],
     last_serial: &mut [u32],
 ) -> u64
-    ensures { λ r. ⌜ begun r (now (soil .exit)) (now (snow .exit)) (now (memory .exit)) (now («last_serial» .exit)) ≡ freshFrom (setupFrom width height first last (now (covers .entry)) (now (direction .entry)) (now (cover .entry)) (now (group .entry)) (now (water .entry))) (storesFrom (now (soil .entry)) (now (snow .entry)) (now (memory .entry)) (now («last_serial» .entry))) ⌝ }
+    ensures { λ r. ⌜ begun r (now (soil .exit)) (now (snow .exit)) (now (memory .exit)) (now («last_serial» .exit))
+        ≡ freshFrom (setupFrom width height first last (now (covers .entry)) (now (direction .entry)) (now (cover .entry)) (now (group .entry)) (now (available .entry)))
+        (storesFrom (now (soil .entry)) (now (snow .entry)) (now (memory .entry)) (now («last_serial» .entry))) ⌝ }
 {
     if memory.len() != 5 {
         return LENT;
@@ -69,7 +72,7 @@ pub extern "C" fn recharge_fresh(
         direction,
         cover,
         group,
-        water,
+        available,
         soil,
         snow,
     );
@@ -92,7 +95,7 @@ pub extern "C" fn recharge_day(
     direction: &[u32],
     cover: &[u32],
     group: &[u32],
-    water: &[u32],
+    available: &[u32],
     soil: &mut [u32],
     snow: &mut [u32],
     memory: &mut [u32],
@@ -111,7 +114,13 @@ pub extern "C" fn recharge_day(
     maximum: i32,
     potential: u32,
 ) -> u64
-    ensures { λ r. ⌜ handed r (storesFrom (now (soil .exit)) (now (snow .exit)) (now (memory .exit)) (now («last_serial» .exit))) (resultsFrom (now (intercepted .exit)) (now (outflow .exit)) (now (evapotranspired .exit)) (now (recharged .exit)) (now (rejected .exit))) (now (totals .exit)) ≡ dayGives (setupFrom width height first last (now (covers .entry)) (now (direction .entry)) (now (cover .entry)) (now (group .entry)) (now (water .entry))) (storesFrom (now (soil .entry)) (now (snow .entry)) (now (memory .entry)) (now («last_serial» .entry))) (resultsFrom (now (intercepted .entry)) (now (outflow .entry)) (now (evapotranspired .entry)) (now (recharged .entry)) (now (rejected .entry))) (now (totals .entry)) (dayFrom serial «day_of_year» gross minimum mean maximum potential) ⌝ }
+    ensures { λ r. ⌜ handed r (storesFrom (now (soil .exit)) (now (snow .exit)) (now (memory .exit)) (now («last_serial» .exit)))
+        (resultsFrom (now (intercepted .exit)) (now (outflow .exit)) (now (evapotranspired .exit)) (now (recharged .exit)) (now (rejected .exit)))
+        (now (totals .exit))
+        ≡ dayGives (setupFrom width height first last (now (covers .entry)) (now (direction .entry)) (now (cover .entry)) (now (group .entry)) (now (available .entry)))
+        (storesFrom (now (soil .entry)) (now (snow .entry)) (now (memory .entry)) (now («last_serial» .entry)))
+        (resultsFrom (now (intercepted .entry)) (now (outflow .entry)) (now (evapotranspired .entry)) (now (recharged .entry)) (now (rejected .entry)))
+        (now (totals .entry)) (dayFrom serial «day_of_year» gross minimum mean maximum potential) ⌝ }
 {
     if memory.len() != 5 {
         return LENT;
@@ -146,7 +155,7 @@ pub extern "C" fn recharge_day(
         direction,
         cover,
         group,
-        water,
+        available,
         soil,
         snow,
         intercepted,

@@ -23,7 +23,7 @@ use Rattle.paper.proofs.CurveNumberLaws.{curve-number-limits}
 use Rattle.weather.specs.Conditions.{curveNumberIn}
 use Rattle.weather.proofs.TodayLaws.{table-number}
 use Rattle.covers.specs.Slots.{openAt, seasonAt, groupNumberAt, cellFrom}
-use Rattle.covers.specs.Plots.{heldOf, wetOf, fallOf, curveOf, curveIn, drainOf, sharedBy, plotNumber, plotsOf, plotFor, plotAt, plotIn}
+use Rattle.covers.specs.Plots.{caughtOf, wetOf, fallOf, curveOf, curveIn, drainOf, sharedBy, plotNumber, plotsOf, plotFor, plotAt, plotIn}
 
 -- a number of 32 bits is one again in any condition
 pub curve-small : (condition : Condition) (N : ℕ) → N < 4294967296 → curveNumberIn condition N < 4294967296
@@ -38,7 +38,7 @@ curve-small condition N h =
 -- a slot's numbers from the code's steps
 module _ (t : Today) (covers : List ℕ) (slot : ℕ) where
   pub on-water : eqb (openOf covers (slot / 4)) 1 ≡ true → (0 ∷ t .gross ∷ 0 ∷ 0 ∷ 0 ∷ 0 ∷ []) ≡ sharedBy t covers slot
-  unfolding sharedBy heldOf wetOf fallOf curveIn groupNumberAt drainOf cellFrom
+  unfolding sharedBy caughtOf wetOf fallOf curveIn groupNumberAt drainOf cellFrom
   on-water wet = rw wet
 
   season : (growing : Bool) → numberOf covers (slot / 4) (cond growing 10 11) ≡ cond growing (growingOf covers (slot / 4)) (dormantOf covers (slot / 4))
@@ -51,7 +51,7 @@ module _ (t : Today) (covers : List ℕ) (slot : ℕ) where
       → table ≡ curveNumberOf covers (slot / 4) (slot % 4 + 1) → curve ≡ curveNumberIn (t .condition) table
       → root ≡ rootDepthOf covers (slot / 4) (slot % 4 + 1) → largest ≡ largestOf covers (slot / 4) (slot % 4 + 1)
       → (held ∷ rain ∷ fall ∷ curve ∷ root ∷ largest ∷ []) ≡ sharedBy t covers slot
-  unfolding sharedBy heldOf wetOf fallOf curveIn groupNumberAt drainOf cellFrom interceptedOf rainOf netOf figureOf net intercepted
+  unfolding sharedBy caughtOf wetOf fallOf curveIn groupNumberAt drainOf cellFrom interceptedOf rainOf netOf figureOf net intercepted
   on-land figure held rest rain fall table curve root largest dry ef eh er en el et ec eo eg =
       rw (dry, en, el, ec, et, eo, eg, er, eh, ef, season (t .growing?))
 
@@ -103,22 +103,22 @@ module _ (t : Today) (covers before plots : List ℕ) (few : t .gross ≤ mostGr
   unfolding sharedBy fallOf cellFrom netOf figureOf seasonAt
   fall-is = at-place 2 (omega arith)
 
-  times-root : (b : Bool) (water d : ℕ) → water * cond b 0 d ≡ cond b 0 (water * d)
-  times-root true water d = mul-zero water
-  times-root Bool.false water d = refl
+  times-root : (b : Bool) (available d : ℕ) → available * cond b 0 d ≡ cond b 0 (available * d)
+  times-root true available d = mul-zero available
+  times-root Bool.false available d = refl
 
   -- the table's N
   abbrev N : ℕ
   N = curveNumberOf covers (slot / 4) (slot % 4 + 1)
 
-  pub plot-is : (water way : ℕ) → leastCurveNumber ≤ N → N ≤ mostCurveNumber → plotIn plots slot water ≡ plotFor t (cellFrom covers slot water way)
-  unfolding plotIn plotFor sharedBy heldOf wetOf fallOf curveOf curveIn groupNumberAt drainOf cellFrom interceptedOf rainOf netOf figureOf mostSoilOf
-  plot-is water way low high =
+  pub plot-is : (available way : ℕ) → leastCurveNumber ≤ N → N ≤ mostCurveNumber → plotIn plots slot available ≡ plotFor t (cellFrom covers slot available way)
+  unfolding plotIn plotFor sharedBy caughtOf wetOf fallOf curveOf curveIn groupNumberAt drainOf cellFrom interceptedOf rainOf netOf figureOf mostSoilOf
+  plot-is available way low high =
       λ k. record {
         intercepted = at-place 0 (omega arith) k;
         rain = at-place 1 (omega arith) k;
         snowfall = at-place 2 (omega arith) k;
         curve = (at-place 3 (omega arith) ∙ ap (cond (openAt covers slot) 0) (table-number (t .condition) N low high)) k;
-        capacity = (ap (λ (x : ℕ). water * x) (at-place 4 (omega arith)) ∙ times-root (eqb (openOf covers (slot / 4)) 1) water _) k;
+        capacity = (ap (λ (x : ℕ). available * x) (at-place 4 (omega arith)) ∙ times-root (eqb (openOf covers (slot / 4)) 1) available _) k;
         largest = at-place 5 (omega arith) k;
       }

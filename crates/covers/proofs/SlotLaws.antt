@@ -42,9 +42,9 @@ given-most true d most h = zero-le
 given-most Bool.false d most h = h
 
 -- a cell's most soil, by the root depth of its slot
-pub soil-most : (covers : List ℕ) (slot water way : ℕ) → water * groupNumberAt covers 11 slot ≡ mostSoilOf (cellFrom covers slot water way)
+pub soil-most : (covers : List ℕ) (slot available way : ℕ) → available * groupNumberAt covers 11 slot ≡ mostSoilOf (cellFrom covers slot available way)
 unfolding groupNumberAt mostSoilOf cellFrom
-soil-most covers slot water way = times-given (openAt covers slot) water _
+soil-most covers slot available way = times-given (openAt covers slot) available _
 
 pub root-at : (covers roots : List ℕ) (slot : ℕ) → roots ≡ made 256 (groupNumberAt covers 11) → slot < 256
     → getD roots slot 0 ≡ groupNumberAt covers 11 slot

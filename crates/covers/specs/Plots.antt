@@ -18,8 +18,8 @@ use Rattle.covers.specs.Slots.{groupNumberAt, cellFrom}
 use Rattle.covers.specs.declared.plots.SlotDay.{SlotDay}
 
 -- rules 2 and 3 on land; on open water nothing is intercepted, and all of gross precipitation is rain
-unfoldable pub heldOf : Today → Cell → ℕ
-heldOf t c = cond (c .open?) 0 (interceptedOf c t)
+unfoldable pub caughtOf : Today → Cell → ℕ
+caughtOf t c = cond (c .open?) 0 (interceptedOf c t)
 
 unfoldable pub wetOf : Today → Cell → ℕ
 wetOf t c = cond (c .open?) (t .gross) (rainOf c t)
@@ -42,7 +42,7 @@ drainOf c = cond (c .open?) 0 (c .largest)
 -- a slot's numbers in the order of their places: intercepted, rain, snowfall, curve number, root depth, largest recharge
 unfoldable pub sharedBy : Today → List ℕ → ℕ → List ℕ
 sharedBy t covers slot =
-    heldOf t (cellFrom covers slot 0 0)
+    caughtOf t (cellFrom covers slot 0 0)
     ∷ wetOf t (cellFrom covers slot 0 0)
     ∷ fallOf t (cellFrom covers slot 0 0)
     ∷ curveIn t (cellFrom covers slot 0 0)
@@ -82,7 +82,7 @@ pub record Plot : Type 0 where
 unfoldable pub plotFor : Today → Cell → Plot
 plotFor t c =
     record {
-      intercepted = heldOf t c;
+      intercepted = caughtOf t c;
       rain = wetOf t c;
       snowfall = fallOf t c;
       curve = curveOf t c;
@@ -96,12 +96,12 @@ plotAt plots slot k = getD plots (6 * slot + k) 0
 
 -- the slot's numbers, and the most that the soil holds with that available water
 unfoldable pub plotIn : List ℕ → ℕ → ℕ → Plot
-plotIn plots slot water =
+plotIn plots slot available =
     record {
       intercepted = plotAt plots slot 0;
       rain = plotAt plots slot 1;
       snowfall = plotAt plots slot 2;
       curve = plotAt plots slot 3;
-      capacity = water * plotAt plots slot 4;
+      capacity = available * plotAt plots slot 4;
       largest = plotAt plots slot 5;
     }

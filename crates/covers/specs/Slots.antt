@@ -23,11 +23,11 @@ groupNumberAt covers base slot = cond (openAt covers slot) 0 (numberOf covers (s
 
 -- the cell of a slot, with its available water and its way
 unfoldable pub cellFrom : List ℕ → ℕ → ℕ → ℕ → Cell
-cellFrom covers slot water way =
+cellFrom covers slot available way =
     record {
       open? = openAt covers slot;
       closed? = eqb way (suc mostCells);
-      capacity = water * rootDepthOf covers (slot / 4) (slot % 4 + 1);
+      capacity = available * rootDepthOf covers (slot / 4) (slot % 4 + 1);
       N = numberAt covers slot;
       largest = largestOf covers (slot / 4) (slot % 4 + 1);
       growingFigure = growingOf covers (slot / 4);

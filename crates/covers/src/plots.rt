@@ -108,7 +108,8 @@ fn slot_day(today: Today, covers: &[u32], slot: usize) -> SlotDay
 // The numbers of each slot of the table, as far as the room goes. The array is lent as a slice, whose length the prover knows.
 fn lay(today: Today, covers: &[u32], plots: &mut [u32])
     requires { ⌜ today .gross .0 ≤ mostGross ⌝ }
-    ensures { λ r. ⌜ now (plots .exit) ≡ madeOver (6 * min (length (now (plots .entry)) / 6) (4 * entries (now (covers .entry)))) (plotNumber (todayAs today) (now (covers .entry))) (now (plots .entry)) ⌝ }
+    ensures { λ r. ⌜ now (plots .exit) ≡ madeOver (6 * min (length (now (plots .entry)) / 6) (4 * entries (now (covers .entry))))
+        (plotNumber (todayAs today) (now (covers .entry))) (now (plots .entry)) ⌝ }
 {
     let mut slots = 4 * (covers.len() / ENTRY_NUMBERS);
     if plots.len() / PLOT_NUMBERS < slots {

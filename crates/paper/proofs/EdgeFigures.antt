@@ -20,7 +20,6 @@ use Rattle.paper.specs.Snow.{fallsAsSnow, aboveFreezing, meltable}
 use Rattle.paper.specs.CurveNumber.{I, II, III, class, conditionOf}
 use Rattle.paper.specs.Outflow.{outflow}
 use Rattle.paper.specs.CellDay.{today, figureOf, netOf, storeOf}
-use Rattle.paper.specs.Flow.{water}
 use Rattle.paper.specs.Refusals.{
   numberOf,
   placeOf,
@@ -50,7 +49,7 @@ lake = 9 ∷ 1 ∷ 30 ∷ 30 ∷ 30 ∷ 30 ∷ 0 ∷ 0 ∷ 0 ∷ 0 ∷ 0 ∷ 0 �
 
 -- two cells in a row, the left one draining to the right one, which is a closed depression
 abbrev two : List ℕ → List ℕ → List ℕ → List ℕ → List ℕ → Setup
-two covers direction cover group water =
+two covers direction cover group available =
     record {
       grid = record { width = 2; height = 1 };
       season = record { first = 120; last = 270 };
@@ -58,7 +57,7 @@ two covers direction cover group water =
       direction = direction;
       cover = cover;
       group = group;
-      water = water;
+      available = available;
     }
 
 abbrev plain : Setup
@@ -208,13 +207,13 @@ pub record Edges : Type 0 where
   pub fresh : freshState plain ≡ state (8200 ∷ 8200 ∷ []) (0 ∷ 0 ∷ [])
   -- each refusal's number and place
   pub taken : answer plain full 2 warm ≡ at 0 0
-  pub no-grid : answer (record { grid = record { width = 2; height = 0 }; season = plain .season; covers = plain .covers; direction = []; cover = []; group = []; water = [] }) full 2 warm ≡ at 1 0
+  pub no-grid : answer (record { grid = record { width = 2; height = 0 }; season = plain .season; covers = plain .covers; direction = []; cover = []; group = []; available = [] }) full 2 warm ≡ at 1 0
   pub lent-short : answer plain full 1 warm ≡ at 2 0
   pub table-empty : answer (two [] (1 ∷ 0 ∷ []) (7 ∷ 7 ∷ []) (2 ∷ 2 ∷ []) (100 ∷ 100 ∷ [])) full 2 warm ≡ at 3 0
   pub table-order : answer (two (told ++ told) (1 ∷ 0 ∷ []) (7 ∷ 7 ∷ []) (2 ∷ 2 ∷ []) (100 ∷ 100 ∷ [])) full 2 warm ≡ at 3 1
   pub no-code : answer (two told (1 ∷ 0 ∷ []) (7 ∷ 8 ∷ []) (2 ∷ 2 ∷ []) (100 ∷ 100 ∷ [])) full 2 warm ≡ at 4 1
   pub ring : answer (two told (1 ∷ 16 ∷ []) (7 ∷ 7 ∷ []) (2 ∷ 2 ∷ []) (100 ∷ 100 ∷ [])) full 2 warm ≡ at 5 0
-  pub no-season : answer (record { grid = plain .grid; season = record { first = 1; last = 367 }; covers = plain .covers; direction = plain .direction; cover = plain .cover; group = plain .group; water = plain .water }) full 2 warm ≡ at 6 0
+  pub no-season : answer (record { grid = plain .grid; season = record { first = 1; last = 367 }; covers = plain .covers; direction = plain .direction; cover = plain .cover; group = plain .group; available = plain .available }) full 2 warm ≡ at 6 0
   pub no-day : answer plain full 2 (day 1 150 400001 (pos 600) (pos 700) (pos 800) 100) ≡ at 7 0
   pub gap : answer plain (record { soil = full .soil; snow = full .snow; past = record { memory = noRain; last = serial 5 } }) 2 warm ≡ at 8 0
   pub too-wet : answer plain (state (8200 ∷ 8201 ∷ []) (0 ∷ 0 ∷ [])) 2 warm ≡ at 9 1

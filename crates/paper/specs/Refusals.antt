@@ -90,7 +90,7 @@ oneEach n (l ∷ ls) = eqb l n && oneEach n ls
 
 -- the lengths of the setup's slices
 unfoldable pub setupLengths : Setup → List ℕ
-setupLengths s = length (s .direction) ∷ length (s .cover) ∷ length (s .group) ∷ length (s .water) ∷ []
+setupLengths s = length (s .direction) ∷ length (s .cover) ∷ length (s .group) ∷ length (s .available) ∷ []
 
 -- 3: a size outside its limits is found at 0, before any entry is looked at
 unfoldable pub coverPlaces : List ℕ → ℕ

@@ -36,7 +36,7 @@ pub record Setup : Type 0 where
   pub direction : List ℕ
   pub cover : List ℕ
   pub group : List ℕ
-  pub water : List ℕ
+  pub available : List ℕ
 
 unfoldable pub cellsIn : Grid → ℕ
 cellsIn g = g .width * g .height
@@ -61,8 +61,8 @@ coverOf s i = getD (s .cover) i 0
 abbrev pub groupOf : Setup → ℕ → ℕ
 groupOf s i = getD (s .group) i 0
 
-abbrev pub waterOf : Setup → ℕ → ℕ
-waterOf s i = getD (s .water) i 0
+abbrev pub availableOf : Setup → ℕ → ℕ
+availableOf s i = getD (s .available) i 0
 
 -- its entry in the cover table; a code that the table does not have is given the place past the last one
 unfoldable pub placeOr : ℕ → Found → ℕ
@@ -76,7 +76,7 @@ unfoldable pub cellFits : Setup → ℕ → Bool
 cellFits s i =
     some (entries (s .covers)) (λ e. eqb (codeOf (s .covers) e) (coverOf s i))
     && within 1 4 (groupOf s i)
-    && leb (waterOf s i) mostAvailableWater
+    && leb (availableOf s i) mostAvailableWater
 
 unfoldable pub isOpen : Setup → ℕ → Bool
 isOpen s i = eqb (openOf (s .covers) (entryOf s i)) 1
@@ -121,7 +121,7 @@ cell s i =
     record {
       open? = isOpen s i;
       closed? = isClosed (goes s i);
-      capacity = waterOf s i * rootDepthOf (s .covers) (entryOf s i) (groupOf s i);
+      capacity = availableOf s i * rootDepthOf (s .covers) (entryOf s i) (groupOf s i);
       N = curveNumberOf (s .covers) (entryOf s i) (groupOf s i);
       largest = largestOf (s .covers) (entryOf s i) (groupOf s i);
       growingFigure = growingOf (s .covers) (entryOf s i);

@@ -15,7 +15,7 @@ use Rattle.theory.proofs.ListLaws.{made-cong, over-at}
 use Rattle.theory.proofs.SumLaws.{sum-cong}
 use Rattle.paper.specs.Limits.{mostGross}
 use Rattle.paper.specs.Directions.{Goes, to, leaves, stays, openWater}
-use Rattle.paper.specs.Setup.{Setup, cell, cells, waterOf, goes, pointed, next}
+use Rattle.paper.specs.Setup.{Setup, cell, cells, availableOf, goes, pointed, next}
 use Rattle.paper.specs.State.{State, Day, Past, remembered, serial, soilAt, snowAt}
 use Rattle.paper.specs.CellDay.{Today, today, Figures, cellDay}
 use Rattle.paper.specs.CurveNumber.{curveNumber}
@@ -57,7 +57,7 @@ module _ (s : Setup) (st : State) (r : paper.Results) (d : Day) (before ways₀ 
   record Lent : Type 0 where
     directions : length (s .direction) ≡ cells s
     covers : length (s .cover) ≡ cells s
-    waters : length (s .water) ≡ cells s
+    waters : length (s .available) ≡ cells s
     soils : length (st .soil) ≡ cells s
     snows : length (st .snow) ≡ cells s
     interceptions : length (r .intercepted) ≡ cells s
@@ -104,14 +104,14 @@ module _ (s : Setup) (st : State) (r : paper.Results) (d : Day) (before ways₀ 
   way-here i h = rw (m .ways-are) (over-at (cells s) (next s) ways₀ 0 i h)
 
   -- a slot's curve number is one of the table's
-  tabled : (i : ℕ) → i < cells s → SoundCell (cellFrom (s .covers) (slotOf s i) (waterOf s i) (next s i))
+  tabled : (i : ℕ) → i < cells s → SoundCell (cellFrom (s .covers) (slotOf s i) (availableOf s i) (next s i))
   tabled i h = rw (cell-is s chart i h) at (sound-cell s chart i h)
 
-  plot-here : (i : ℕ) → i < cells s → pass.plotOfCell plots slots (s .water) i ≡ plotFor t (cell s i)
+  plot-here : (i : ℕ) → i < cells s → pass.plotOfCell plots slots (s .available) i ≡ plotFor t (cell s i)
   unfolding pass.plotOfCell cellFrom
   plot-here i h =
       rw (slot-here i h)
-      (plot-is t (s .covers) blank plots few filled (slotOf s i) (slot-limit s chart i h) (slot-small i h) (waterOf s i) (next s i)
+      (plot-is t (s .covers) blank plots few filled (slotOf s i) (slot-limit s chart i h) (slot-small i h) (availableOf s i) (next s i)
       (tabled i h .least-N) (tabled i h .most-N))
       ∙ ap (plotFor t) (sym (cell-is s chart i h))
 
@@ -141,7 +141,7 @@ module _ (s : Setup) (st : State) (r : paper.Results) (d : Day) (before ways₀ 
   abbrev slices : pass.Slices
   slices = pass.slicesOf (st .soil) (st .snow) (r .intercepted) (r .outflow) (r .evapotranspired) (r .recharged) (r .rejected)
 
-  pub ready : pass.Ready t plots slots ways order (s .water) slices
+  pub ready : pass.Ready t plots slots ways order (s .available) slices
   unfolding today plotFor
   ready =
       let n = lent .waters in
@@ -175,22 +175,22 @@ module _ (s : Setup) (st : State) (r : paper.Results) (d : Day) (before ways₀ 
       curve i k = rw is-today (days.small s st r d ok i k)
 
   -- what a cell passes on, its own water, what arrives at it, and its figures
-  passes : (j w : ℕ) → j < cells s → pass.passedAt plots slots ways (s .water) j w ≡ paper.passed s t j w
+  passes : (j w : ℕ) → j < cells s → pass.passedAt plots slots ways (s .available) j w ≡ paper.passed s t j w
   unfolding pass.passedAt paper.passed
   passes j w h = rw (plot-here j h) (passed-plot t (cell s j) (getD ways j 0) (lake j h) (closes j h) w)
 
-  owns : (j : ℕ) → j < cells s → pass.ownAt t plots slots (s .water) (st .snow) j ≡ paper.own s st t j
+  owns : (j : ℕ) → j < cells s → pass.ownAt t plots slots (s .available) (st .snow) j ≡ paper.own s st t j
   unfolding pass.ownAt paper.own
   owns j h = rw (plot-here j h) (own-plot t (cell s j) (snowAt st j) (ok .snow j h))
 
-  inflow-same : (i : ℕ) → pass.inflowAt t plots slots ways (s .water) (st .soil) (st .snow) i ≡ paper.inflow s st t i
+  inflow-same : (i : ℕ) → pass.inflowAt t plots slots ways (s .available) (st .soil) (st .snow) i ≡ paper.inflow s st t i
   unfolding pass.inflowAt paper.inflow
   inflow-same i =
       rw (lent .waters, ways-point)
-      (arriving-same (cells s) (next s) (pass.passedAt plots slots ways (s .water)) (paper.passed s t)
-      (pass.ownAt t plots slots (s .water) (st .snow)) (paper.own s st t) passes owns i)
+      (arriving-same (cells s) (next s) (pass.passedAt plots slots ways (s .available)) (paper.passed s t)
+      (pass.ownAt t plots slots (s .available) (st .snow)) (paper.own s st t) passes owns i)
 
-  figure-same : (i : ℕ) → i < cells s → pass.figuresAt t plots slots ways (s .water) (st .soil) (st .snow) i ≡ paper.figuresOf s st d i
+  figure-same : (i : ℕ) → i < cells s → pass.figuresAt t plots slots ways (s .available) (st .soil) (st .snow) i ≡ paper.figuresOf s st d i
   unfolding pass.figuresAt paper.figuresOf paper.figures
   figure-same i h =
       rw (plot-here i h, inflow-same i) (day-plot t (cell s i) (getD ways i 0) (lake i h) (closes i h) (soilAt st i) (snowAt st i) _ (ok .soil i h) (ok .snow i h))
@@ -241,7 +241,7 @@ module _ (s : Setup) (st : State) (r : paper.Results) (d : Day) (before ways₀ 
   -- the whole answer of an accepted day
   pub accepted-answer : paper.verdictOf s st r d ≡ accepted → (o : code.Verdict) → o ≡ Accepted → (past : Past)
       → past ≡ record { memory = remembered (st .past .memory) (d .gross); last = serial (d .serial) } → (totals : Totals) (after : pass.Slices)
-      → pass.Ran t plots slots ways (s .water) (st .soil) (st .snow) totals after
+      → pass.Ran t plots slots ways (s .available) (st .soil) (st .snow) totals after
       → record {
         verdict = verdictAs o;
         results =

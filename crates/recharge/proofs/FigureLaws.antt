@@ -22,7 +22,7 @@ use Rattle.paper.proofs.OutflowLaws.{outflow-most}
 use Rattle.paper.proofs.SoilLaws.{soil-account}
 use Rattle.covers.specs.Slots.{mostCapacity}
 use Rattle.recharge.specs.Depths.{gatheredLimit}
-use Rattle.covers.specs.Plots.{heldOf, wetOf, fallOf, curveOf, drainOf, Plot, plotFor}
+use Rattle.covers.specs.Plots.{caughtOf, wetOf, fallOf, curveOf, drainOf, Plot, plotFor}
 use Rattle.recharge.specs.CellDay.{openWater, closedWay, ownBy, passedBy, groundBy, figuresWith, figuresBy, PlotFits, CellReady, Fit32}
 
 pub passed-most : (p : Plot) (way w : ℕ) → p .curve ≤ mostCurveNumber → passedBy p way w ≤ w
@@ -76,7 +76,7 @@ module _ (t : Today) (c : Cell) where
 
   -- the plot of a cell within its limits
   pub plot-fits : t .gross ≤ mostGross → c .capacity ≤ mostCapacity → curveNumber (t .condition) (c .N) ≤ mostCurveNumber → PlotFits (plotFor t c)
-  unfolding plotFor heldOf wetOf curveOf mostSoilOf interceptedOf intercepted rainOf
+  unfolding plotFor caughtOf wetOf curveOf mostSoilOf interceptedOf intercepted rainOf
   plot-fits few deep small =
       byCases (c .open?)
       (λ e. simp (cond-true {A = ℕ} (c .open?) e) (omega arith))
@@ -110,7 +110,7 @@ module _ (t : Today) (c : Cell) where
 
     module _ (soil snow w : ℕ) (holds : soil ≤ mostSoilOf c) (lies : snow ≤ mostSnowOf c) where
       on-water : c .open? ≡ true → figuresWith t (plotFor t c) way soil snow w ≡ openDay w
-      unfolding figuresWith groundBy plotFor heldOf fallOf passedOf mostSoilOf mostSnowOf openDay
+      unfolding figuresWith groundBy plotFor caughtOf fallOf passedOf mostSoilOf mostSnowOf openDay
       on-water e =
           let bare : soil ≤ 0 = rw (cond-true {A = ℕ} (c .open?) e) at holds in
           let clear : snow ≤ 0 = rw (cond-true {A = ℕ} (c .open?) e) at lies in
@@ -134,7 +134,7 @@ module _ (t : Today) (c : Cell) where
           nought part h = is-0 _ h
 
       on-land : c .open? ≡ false → figuresWith t (plotFor t c) way soil snow w ≡ landDay c t soil snow w
-      unfolding figuresWith groundBy plotFor heldOf fallOf drainOf mostSoilOf landDay groundOf storeOf meltOf
+      unfolding figuresWith groundBy plotFor caughtOf fallOf drainOf mostSoilOf landDay groundOf storeOf meltOf
       on-land e = rw (passed-plot w) (simp (cond-false {A = ℕ} (c .open?) e))
 
     pub day-plot : (soil snow arrived : ℕ) → soil ≤ mostSoilOf c → snow ≤ mostSnowOf c

@@ -79,9 +79,9 @@ unfolding oneEach
 two-each n a b more e = (eqb-true _ _ (search and-left), eqb-true _ _ (search (and-left, and-right)))
 
 -- tests 7 and 8 before others
-module _ (g : Grid) (covers slots water soil snow : List ℕ) (past : Past) (d : Day) (plots : List ℕ) where
+module _ (g : Grid) (covers slots available soil snow : List ℕ) (past : Past) (d : Day) (plots : List ℕ) where
   abbrev later : List Test
-  later = laterTests g covers slots water soil snow past d plots
+  later = laterTests g covers slots available soil snow past d plots
 
   pub day-bad : dayFits d ≡ false → verdict later ≡ refused dayRecord
   unfolding laterTests
@@ -92,7 +92,7 @@ module _ (g : Grid) (covers slots water soil snow : List ℕ) (past : Past) (d :
     unfolding laterTests
     serial-bad e = pass-single _ _ dayRecord day ∙ fail-single _ _ serialGap e
 
-    pub record-good : follows (past .last) (d .serial) ≡ true → verdict later ≡ verdict (stateTests g covers slots water soil snow past ++ snowTests plots slots snow)
+    pub record-good : follows (past .last) (d .serial) ≡ true → verdict later ≡ verdict (stateTests g covers slots available soil snow past ++ snowTests plots slots snow)
     unfolding laterTests
     record-good e = pass-single _ _ dayRecord day ∙ pass-single _ _ serialGap e
 
@@ -102,7 +102,7 @@ module _ (s : Setup) (st : State) (d : Day) (slots plots₀ : List ℕ) (ok : st
   plots = plotsOf t (s .covers) plots₀
 
   abbrev us : List Test
-  us = stateTests (s .grid) (s .covers) slots (s .water) (st .soil) (st .snow) (st .past)
+  us = stateTests (s .grid) (s .covers) slots (s .available) (st .soil) (st .snow) (st .past)
 
   abbrev vs : List Test
   vs = snowTests plots slots (st .snow)
@@ -135,7 +135,7 @@ module _ (s : Setup) (st : State) (d : Day) (slots plots₀ : List ℕ) (ok : st
     state-then (refused why) q =
         refused-then vs us why (stores.state-paper s st slots ok ∙ q) ∙ sym (refused-then (stores.tenth s st read ∷ []) (stores.ninth s st ∷ []) why q)
 
-  pub later-paper : verdict (laterTests (s .grid) (s .covers) slots (s .water) (st .soil) (st .snow) (st .past) d plots) ≡ verdict (dayTests s st d)
+  pub later-paper : verdict (laterTests (s .grid) (s .covers) slots (s .available) (st .soil) (st .snow) (st .past) d plots) ≡ verdict (dayTests s st d)
   unfolding dayTests
   later-paper =
       byCases (dayFits d)
@@ -150,11 +150,11 @@ module _ (s : Setup) (st : State) (d : Day) (slots plots₀ : List ℕ) (ok : st
       ∙ sym (fail-single (single (follows (st .past .last) (d .serial)) serialGap ∷ stores.ninth s st ∷ stores.tenth s st read ∷ []) _ dayRecord day))
 
 -- all ten, with the lengths of the stores and results
-module _ (s : Setup) (more : List ℕ) (st : State) (d : Day) (held ways₀ plots₀ : List ℕ) (r : Tested) (is : todayAs (r .today) ≡ todayIn (s .season) (st .past) d)
+module _ (s : Setup) (more : List ℕ) (st : State) (d : Day) (slots₀ ways₀ plots₀ : List ℕ) (r : Tested) (is : todayAs (r .today) ≡ todayIn (s .season) (st .past) d)
     (slots ways order plots : List ℕ) where
   -- refused by some of them, where that refuses all
   refuse : (v : Verdict) → r .verdict ≡ verdictIn v → (r .verdict ≡ Accepted → ⊥) → ((why : Refusal) → v ≡ refused why → verdict (allTests s more st d) ≡ refused why)
-      → AllTested s more st d held ways₀ plots₀ r slots ways order plots
+      → AllTested s more st d slots₀ ways₀ plots₀ r slots ways order plots
   refuse accepted e not refuses = absurd (not e)
   refuse (refused why) e not refuses =
       let all : verdict (allTests s more st d) ≡ refused why = refuses why refl in
@@ -166,32 +166,32 @@ module _ (s : Setup) (more : List ℕ) (st : State) (d : Day) (held ways₀ plot
       }
 
   pub lent-decides : r .verdict ≡ verdictIn (verdict (lentTests (s .grid) more)) → (r .verdict ≡ Accepted → ⊥)
-      → AllTested s more st d held ways₀ plots₀ r slots ways order plots
+      → AllTested s more st d slots₀ ways₀ plots₀ r slots ways order plots
   lent-decides e not = refuse _ e not (λ why v. refused-then (dayTests s st d) (setupTests s (setupLengths s ++ more)) why (lent-refuses s more why v))
 
   module _ (each : oneEach (cells s) more ≡ true) where
-    pub survey-decides : Surveyed s held ways₀ (r .verdict) slots ways order → (r .verdict ≡ Accepted → ⊥)
-        → AllTested s more st d held ways₀ plots₀ r slots ways order plots
+    pub survey-decides : Surveyed s slots₀ ways₀ (r .verdict) slots ways order → (r .verdict ≡ Accepted → ⊥)
+        → AllTested s more st d slots₀ ways₀ plots₀ r slots ways order plots
     survey-decides surveyed not =
         refuse _ (surveyed .verdict-is) not
         (λ why v. refused-then (dayTests s st d) (setupTests s (setupLengths s ++ more)) why (more-fit s more each ∙ v))
 
     -- a setup that passed: the day's tests decide
-    pub day-decides : (v : code.Verdict) → Surveyed s held ways₀ v slots ways order → v ≡ Accepted → length (st .soil) ≡ cells s → length (st .snow) ≡ cells s
+    pub day-decides : (v : code.Verdict) → Surveyed s slots₀ ways₀ v slots ways order → v ≡ Accepted → length (st .soil) ≡ cells s → length (st .snow) ≡ cells s
         → plots ≡ plotsOf (todayAs (r .today)) (s .covers) plots₀
-        → r .verdict ≡ verdictIn (verdict (laterTests (s .grid) (s .covers) slots (s .water) (st .soil) (st .snow) (st .past) d plots))
-        → AllTested s more st d held ways₀ plots₀ r slots ways order plots
+        → r .verdict ≡ verdictIn (verdict (laterTests (s .grid) (s .covers) slots (s .available) (st .soil) (st .snow) (st .past) d plots))
+        → AllTested s more st d slots₀ ways₀ plots₀ r slots ways order plots
     day-decides v surveyed passed soils snows laid e =
         let setup : checkOf s ≡ accepted = accepted-back _ (sym passed ∙ surveyed .verdict-is) in
-        let m : Mapped s held ways₀ slots ways order = surveyed .mapped setup in
+        let m : Mapped s slots₀ ways₀ slots ways order = surveyed .mapped setup in
         let ok : stores.Testable s st slots
-        = record { passed = setup; lent = held; slots-are = m .slots-are; slots-sized = m .slots-sized; soils = soils; snows = snows } in
+        = record { passed = setup; lent = slots₀; slots-are = m .slots-are; slots-sized = m .slots-sized; soils = soils; snows = snows } in
         let all : verdict (allTests s more st d) ≡ verdict (dayTests s st d)
         = accepted-then (dayTests s st d) (setupTests s (setupLengths s ++ more)) (more-fit s more each ∙ setup) in
         record {
           verdict-is =
               e
-              ∙ ap (λ (p : List ℕ). verdictIn (verdict (laterTests (s .grid) (s .covers) slots (s .water) (st .soil) (st .snow) (st .past) d p))) laid
+              ∙ ap (λ (p : List ℕ). verdictIn (verdict (laterTests (s .grid) (s .covers) slots (s .available) (st .soil) (st .snow) (st .past) d p))) laid
               ∙ ap verdictIn (later-paper s st d slots plots₀ ok (todayAs (r .today)) is ∙ sym all);
           weather = is;
           mapped = λ a. m;

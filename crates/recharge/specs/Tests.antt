@@ -21,18 +21,18 @@ dayLengths soil snow r =
 
 -- tests 7 to 10, the cells found by their slots
 unfoldable pub laterTests : Grid → List ℕ → List ℕ → List ℕ → List ℕ → List ℕ → Past → Day → List ℕ → List Test
-laterTests g covers slots water soil snow past d plots =
+laterTests g covers slots available soil snow past d plots =
     single (dayFits d) dayRecord
     ∷ single (follows (past .last) (d .serial)) serialGap
-    ∷ (stateTests g covers slots water soil snow past ++ snowTests plots slots snow)
+    ∷ (stateTests g covers slots available soil snow past ++ snowTests plots slots snow)
 
 -- all ten
 abbrev pub allTests : Setup → List ℕ → State → Day → List Test
 allTests s more st d = setupTests s (setupLengths s ++ more) ++ dayTests s st d
 
 -- the verdict of all ten, and the day's weather; and where they pass, the arrays of the setup, and what the cells of each slot share
-pub record AllTested (s : Setup) (more : List ℕ) (st : State) (d : Day) (held ways₀ plots₀ : List ℕ) (r : Tested) (slots ways order plots : List ℕ) : Type 0 where
+pub record AllTested (s : Setup) (more : List ℕ) (st : State) (d : Day) (slots₀ ways₀ plots₀ : List ℕ) (r : Tested) (slots ways order plots : List ℕ) : Type 0 where
   pub verdict-is : r .verdict ≡ verdictIn (verdict (allTests s more st d))
-  pub mapped : verdict (allTests s more st d) ≡ accepted → Mapped s held ways₀ slots ways order
+  pub mapped : verdict (allTests s more st d) ≡ accepted → Mapped s slots₀ ways₀ slots ways order
   pub weather : todayAs (r .today) ≡ todayIn (s .season) (st .past) d
   pub plotted : verdict (allTests s more st d) ≡ accepted → plots ≡ plotsOf (todayAs (r .today)) (s .covers) plots₀

@@ -28,7 +28,7 @@ pub fn day(
     direction: &[u32],
     cover: &[u32],
     group: &[u32],
-    water: &[u32],
+    available: &[u32],
     soil: &mut [u32],
     snow: &mut [u32],
     intercepted: &mut [u32],
@@ -41,7 +41,7 @@ pub fn day(
 ) -> Answer
     ensures { λ r. ⌜ outcomeAs r (now (soil .exit)) (now (snow .exit))
         (resultsAs (now (intercepted .exit)) (now (outflow .exit)) (now (evapotranspired .exit)) (now (recharged .exit)) (now (rejected .exit)))
-        ≡ dayOf (setupAs grid season (now (covers .entry)) (now (direction .entry)) (now (cover .entry)) (now (group .entry)) (now (water .entry)))
+        ≡ dayOf (setupAs grid season (now (covers .entry)) (now (direction .entry)) (now (cover .entry)) (now (group .entry)) (now (available .entry)))
         (stateAs (now (soil .entry)) (now (snow .entry)) past)
         (resultsAs (now (intercepted .entry)) (now (outflow .entry)) (now (evapotranspired .entry)) (now (recharged .entry)) (now (rejected .entry))) (dayAs day) ⌝ }
 {
@@ -63,7 +63,7 @@ pub fn day(
         direction,
         cover,
         group,
-        water,
+        available,
         soil,
         snow,
         lengths,
@@ -88,7 +88,7 @@ pub fn day(
         &slots,
         &ways,
         &order,
-        water,
+        available,
         soil,
         snow,
         intercepted,

@@ -27,18 +27,18 @@ fn day_at(
     today: Today,
     plots: &[u32; PLOT_ROOM],
     slots: &[u8; MOST_CELLS],
-    water: &[u32],
+    available: &[u32],
     soil: &[u32],
     snow: &[u32],
     arrived: &[u32; MOST_CELLS],
     way: Way,
     cell: usize,
 ) -> Figures
-    requires { ⌜ LentAt (todayAs today) (now f) (now plots) (now slots) (now water) (now soil) (now snow) (now arrived) cell ⌝ }
-    ensures { λ r. ⌜ figuresAs r ≡ dayAt (todayAs today) (now (plots .entry)) (now (slots .entry)) (now (water .entry)) (now (soil .entry)) (now (snow .entry))
+    requires { ⌜ LentAt (todayAs today) (now f) (now plots) (now slots) (now available) (now soil) (now snow) (now arrived) cell ⌝ }
+    ensures { λ r. ⌜ figuresAs r ≡ dayAt (todayAs today) (now (plots .entry)) (now (slots .entry)) (now (available .entry)) (now (soil .entry)) (now (snow .entry))
         (now (arrived .entry)) (way .0) cell ⌝ }
 {
-    let plot = plot_at(plots, small_place(slots[cell]), water[cell]);
+    let plot = plot_at(plots, small_place(slots[cell]), available[cell]);
     cell_day(
         f,
         today,
@@ -57,7 +57,7 @@ pub(crate) fn downhill(
     slots: &[u8; MOST_CELLS],
     ways: &[u32; MOST_CELLS],
     order: &[u32; MOST_CELLS],
-    water: &[u32],
+    available: &[u32],
     soil: &mut [u32],
     snow: &mut [u32],
     intercepted: &mut [u32],
@@ -66,13 +66,13 @@ pub(crate) fn downhill(
     recharged: &mut [u32],
     rejected: &mut [u32],
 ) -> Totals
-    requires { ⌜ Ready (todayAs today) (now plots) (now slots) (now ways) (now order) (now water)
+    requires { ⌜ Ready (todayAs today) (now plots) (now slots) (now ways) (now order) (now available)
         (slicesOf (now soil) (now snow) (now intercepted) (now outflow) (now evapotranspired) (now recharged) (now rejected)) ⌝ }
-    ensures { λ r. ⌜ Ran (todayAs today) (now (plots .entry)) (now (slots .entry)) (now (ways .entry)) (now (water .entry)) (now (soil .entry)) (now (snow .entry)) r
+    ensures { λ r. ⌜ Ran (todayAs today) (now (plots .entry)) (now (slots .entry)) (now (ways .entry)) (now (available .entry)) (now (soil .entry)) (now (snow .entry)) r
         (slicesOf (now (soil .exit)) (now (snow .exit)) (now (intercepted .exit)) (now (outflow .exit)) (now (evapotranspired .exit))
         (now (recharged .exit)) (now (rejected .exit))) ⌝ }
 {
-    let n = water.len();
+    let n = available.len();
     let gross = today.gross;
     let f = retention();
     let mut arrived = [0u32; MOST_CELLS];
@@ -86,7 +86,7 @@ pub(crate) fn downhill(
             today,
             plots,
             slots,
-            water,
+            available,
             soil,
             snow,
             &arrived,

@@ -33,15 +33,15 @@ fn number_at(plots: &[u32; PLOT_ROOM], slot: usize, k: usize) -> u32
 }
 
 // Available water × root depth.
-fn capacity(water: u32, roots: u32) -> Depth
-    ensures { λ r. ⌜ r .0 ≡ water * roots ⌝ }
+fn capacity(available: u32, roots: u32) -> Depth
+    ensures { λ r. ⌜ r .0 ≡ available * roots ⌝ }
 {
-    Depth(water as u64 * roots as u64)
+    Depth(available as u64 * roots as u64)
 }
 
-pub(crate) fn plot_at(plots: &[u32; PLOT_ROOM], slot: usize, water: u32) -> Plot
+pub(crate) fn plot_at(plots: &[u32; PLOT_ROOM], slot: usize, available: u32) -> Plot
     requires { ⌜ slot < 256 ⌝ }
-    ensures { λ r. ⌜ plotAs r ≡ plotIn (now (plots .entry)) slot water ⌝ }
+    ensures { λ r. ⌜ plotAs r ≡ plotIn (now (plots .entry)) slot available ⌝ }
 {
     let curve = number_at(plots, slot, CURVE_NUMBER);
     Plot {
@@ -49,7 +49,7 @@ pub(crate) fn plot_at(plots: &[u32; PLOT_ROOM], slot: usize, water: u32) -> Plot
         rain: depth(number_at(plots, slot, RAIN)),
         snowfall: depth(number_at(plots, slot, SNOWFALL)),
         curve_number: CurveNumber(curve as u64),
-        capacity: capacity(water, number_at(plots, slot, ROOT_DEPTH)),
+        capacity: capacity(available, number_at(plots, slot, ROOT_DEPTH)),
         largest_recharge: depth(number_at(plots, slot, LARGEST_RECHARGE)),
     }
 }

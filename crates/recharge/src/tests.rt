@@ -72,7 +72,7 @@ fn day_tests(
     today: Today,
     covers: &[u32],
     slots: &[u8; MOST_CELLS],
-    water: &[u32],
+    available: &[u32],
     soil: &[u32],
     snow: &[u32],
     past: Past,
@@ -80,7 +80,7 @@ fn day_tests(
     plots: &mut [u32; PLOT_ROOM],
 ) -> Verdict
     ensures { λ r. ⌜ (now (plots .exit) ≡ plotsOf (todayAs today) (now (covers .entry)) (now (plots .entry)))
-        × (r ≡ verdictIn (verdict (laterTests (gridAs grid) (now (covers .entry)) (now (slots .entry)) (now (water .entry)) (now (soil .entry)) (now (snow .entry))
+        × (r ≡ verdictIn (verdict (laterTests (gridAs grid) (now (covers .entry)) (now (slots .entry)) (now (available .entry)) (now (soil .entry)) (now (snow .entry))
         (pastAs past) (dayAs day) (now (plots .exit))))) ⌝ }
 {
     lay_plots(today, covers, plots);
@@ -91,7 +91,7 @@ fn day_tests(
     if !last.is_followed_by(day.serial) {
         return Verdict::Refused(Refusal::SerialGap);
     }
-    let state = state_verdict(grid, covers, slots, water, soil, snow, past);
+    let state = state_verdict(grid, covers, slots, available, soil, snow, past);
     let Verdict::Accepted = state else {
         return state;
     };
@@ -106,7 +106,7 @@ pub(crate) fn tests(
     direction: &[u32],
     cover: &[u32],
     group: &[u32],
-    water: &[u32],
+    available: &[u32],
     soil: &[u32],
     snow: &[u32],
     results: Lengths,
@@ -117,7 +117,7 @@ pub(crate) fn tests(
     order: &mut [u32; MOST_CELLS],
     plots: &mut [u32; PLOT_ROOM],
 ) -> Tested
-    ensures { λ r. ⌜ AllTested (setupAs grid season (now (covers .entry)) (now (direction .entry)) (now (cover .entry)) (now (group .entry)) (now (water .entry)))
+    ensures { λ r. ⌜ AllTested (setupAs grid season (now (covers .entry)) (now (direction .entry)) (now (cover .entry)) (now (group .entry)) (now (available .entry)))
         (dayLengths (length (now (soil .entry))) (length (now (snow .entry))) results) (stateAs (now (soil .entry)) (now (snow .entry)) past) (dayAs day)
         (now (slots .entry)) (now (ways .entry)) (now (plots .entry)) r (now (slots .exit)) (now (ways .exit)) (now (order .exit)) (now (plots .exit)) ⌝ }
 {
@@ -136,7 +136,7 @@ pub(crate) fn tests(
         direction,
         cover,
         group,
-        water,
+        available,
         slots,
         ways,
         order,
@@ -152,7 +152,7 @@ pub(crate) fn tests(
         today,
         covers,
         slots,
-        water,
+        available,
         soil,
         snow,
         past,

@@ -13,7 +13,7 @@ seasonAs s = record { first = s .first; last = s .last }
 
 -- with the lent cover table, directions, cover codes, groups and available water
 abbrev pub setupAs : Grid → Season → List ℕ → List ℕ → List ℕ → List ℕ → List ℕ → paper.Setup
-setupAs g s covers direction cover group water =
+setupAs g s covers direction cover group available =
     record {
       grid = gridAs g;
       season = seasonAs s;
@@ -21,5 +21,5 @@ setupAs g s covers direction cover group water =
       direction = direction;
       cover = cover;
       group = group;
-      water = water;
+      available = available;
     }

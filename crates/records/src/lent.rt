@@ -22,10 +22,10 @@ pub fn depth(cell: u32) -> Depth
     Depth(cell as u64)
 }
 
-pub fn setup_each(n: usize, direction: usize, cover: usize, group: usize, water: usize) -> bool
-    ensures { λ r. ⌜ r ≡ oneEach n (direction ∷ cover ∷ group ∷ water ∷ []) ⌝ }
+pub fn setup_each(n: usize, direction: usize, cover: usize, group: usize, available: usize) -> bool
+    ensures { λ r. ⌜ r ≡ oneEach n (direction ∷ cover ∷ group ∷ available ∷ []) ⌝ }
 {
-    (direction == n) & ((cover == n) & ((group == n) & ((water == n) & true)))
+    (direction == n) & ((cover == n) & ((group == n) & ((available == n) & true)))
 }
 
 pub fn stores_each(n: usize, soil: usize, snow: usize) -> bool

@@ -30,16 +30,16 @@ use Rattle.survey.proofs.CellLaws.{cell-is}
 use Rattle.survey.proofs.MapLaws.{sound-setup, waters-each, slot-at, slots-fit}
 
 -- what a fill writes into cell i's soil: its slot is one of the array's, and its available water times that slot's root depth is all that it holds
-module _ (covers slots water roots : List ℕ) (fits : SlotsFit covers (length water) slots water) (r : roots ≡ made 256 (groupNumberAt covers 11)) (i : ℕ) (h : i < length water) where
+module _ (covers slots available roots : List ℕ) (fits : SlotsFit covers (length available) slots available) (r : roots ≡ made 256 (groupNumberAt covers 11)) (i : ℕ) (h : i < length available) where
   pub slot-inside : getD slots i 0 < 256
   slot-inside = omega (arith, fits .slotted i h, count-limit covers (fits .table))
 
-  pub full-fits : getD water i 0 * getD roots (getD slots i 0) 0 ≤ mostCapacity
+  pub full-fits : getD available i 0 * getD roots (getD slots i 0) 0 ≤ mostCapacity
   full-fits =
       mul-le-mul {m₂ = 1000} (fits .watered i h) (rw (root-at covers roots (getD slots i 0) r slot-inside) (root-most covers (fits .table) (getD slots i 0) (fits .slotted i h)))
 
-  pub full-is : getD water i 0 * getD roots (getD slots i 0) 0 ≡ mostSoilOf (cellFrom covers (getD slots i 0) (getD water i 0) 0)
-  full-is = rw (root-at covers roots (getD slots i 0) r slot-inside) (soil-most covers (getD slots i 0) (getD water i 0) 0)
+  pub full-is : getD available i 0 * getD roots (getD slots i 0) 0 ≡ mostSoilOf (cellFrom covers (getD slots i 0) (getD available i 0) 0)
+  full-is = rw (root-at covers roots (getD slots i 0) r slot-inside) (soil-most covers (getD slots i 0) (getD available i 0) 0)
 
 module _ (s : Setup) (soil snow : List ℕ) where
   abbrev lengths : List ℕ
@@ -73,10 +73,10 @@ module _ (s : Setup) (soil snow : List ℕ) where
       chart : Charted s
       chart = sound-setup s v .charted
 
-      waters : length (s .water) ≡ cells s
+      waters : length (s .available) ≡ cells s
       waters = waters-each s v
 
-      pub fill-ask : SlotsFit (s .covers) (length (s .water)) slots (s .water) × (length soil ≡ length (s .water)) × (length snow ≡ length (s .water))
+      pub fill-ask : SlotsFit (s .covers) (length (s .available)) slots (s .available) × (length soil ≡ length (s .available)) × (length snow ≡ length (s .available))
       unfolding oneEach
       fill-ask = (
         rw waters (slots-fit s chart lent slots (m .slots-are) (m .slots-sized) waters),
@@ -84,14 +84,14 @@ module _ (s : Setup) (soil snow : List ℕ) where
         eqb-true _ _ (search (and-left, and-right)) ∙ sym waters,
       )
 
-      full-at : (i : ℕ) → i < cells s → mostSoilOf (cellFrom (s .covers) (getD slots i 0) (getD (s .water) i 0) 0) ≡ mostSoilOf (cell s i)
+      full-at : (i : ℕ) → i < cells s → mostSoilOf (cellFrom (s .covers) (getD slots i 0) (getD (s .available) i 0) 0) ≡ mostSoilOf (cell s i)
       unfolding mostSoilOf cellFrom
       full-at i h =
-          ap (λ (k : ℕ). mostSoilOf (cellFrom (s .covers) k (getD (s .water) i 0) (next s i))) (slot-at s chart lent slots (m .slots-are) (m .slots-sized) waters i h)
+          ap (λ (k : ℕ). mostSoilOf (cellFrom (s .covers) k (getD (s .available) i 0) (next s i))) (slot-at s chart lent slots (m .slots-are) (m .slots-sized) waters i h)
           ∙ ap mostSoilOf (sym (cell-is s chart i h))
 
       pub accepted-fresh : (o called : code.Verdict) (past : Past) (soil' snow' : List ℕ) → o ≡ called → called ≡ Accepted
-          → past ≡ noPast → Filled (s .covers) slots (s .water) soil' snow'
+          → past ≡ noPast → Filled (s .covers) slots (s .available) soil' snow'
           → record { verdict = verdictAs o; state = record { soil = soil'; snow = snow'; past = past } } ≡ freshOf s soil snow
       unfolding freshOf freshAs freshState
       accepted-fresh o called past soil' snow' same passed none full =
@@ -100,7 +100,7 @@ module _ (s : Setup) (soil snow : List ℕ) where
             state =
                 record {
                   soil =
-                      (full .soils ∙ ap (λ (n : ℕ). made n (λ i. mostSoilOf (cellFrom (s .covers) (getD slots i 0) (getD (s .water) i 0) 0))) waters
+                      (full .soils ∙ ap (λ (n : ℕ). made n (λ i. mostSoilOf (cellFrom (s .covers) (getD slots i 0) (getD (s .available) i 0) 0))) waters
                       ∙ made-cong (cells s) _ _ full-at) k;
                   snow = (full .snows ∙ ap (λ (n : ℕ). made {A = ℕ} n (λ i. 0)) waters) k;
                   past = none k;

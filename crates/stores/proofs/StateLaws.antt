@@ -21,11 +21,11 @@ use Rattle.covers.specs.Slots.{openAt, groupNumberAt, cellFrom}
 use Rattle.covers.proofs.SlotLaws.{soil-most, root-at}
 use Rattle.stores.specs.States.{storesFrom, storesAt, lentTests, stateTest, stateTests}
 
-pub stores-limits : (covers roots : List ℕ) → roots ≡ made 256 (groupNumberAt covers 11) → (slot water soil snow : ℕ) → slot < 256
-    → (leb soil (water * getD roots slot 0) && leb snow (cond (openAt covers slot) 0 mostSnow)) ≡ storesFrom covers slot water soil snow
+pub stores-limits : (covers roots : List ℕ) → roots ≡ made 256 (groupNumberAt covers 11) → (slot available soil snow : ℕ) → slot < 256
+    → (leb soil (available * getD roots slot 0) && leb snow (cond (openAt covers slot) 0 mostSnow)) ≡ storesFrom covers slot available soil snow
 unfolding storesFrom mostSnowOf cellFrom
-stores-limits covers roots e slot water soil snow h =
-    rw (root-at covers roots slot e h, soil-most covers slot water 0) refl
+stores-limits covers roots e slot available soil snow h =
+    rw (root-at covers roots slot e h, soil-most covers slot available 0) refl
 
 pub few-cells : (g : Grid) → gridFits g ≡ true → cellsIn g ≤ 4096
 unfolding gridFits
@@ -36,49 +36,49 @@ unfolding oneEach
 three-each n a b c e =
     (eqb-true _ _ (search (and-left, and-right)), eqb-true _ _ (search (and-left, and-right)), eqb-true _ _ (search (and-left, and-right)))
 
-module _ (g : Grid) (covers slots water soil snow : List ℕ) (past : Past) where
+module _ (g : Grid) (covers slots available soil snow : List ℕ) (past : Past) where
   abbrev tests : List ℕ
-  tests = length water ∷ length soil ∷ length snow ∷ []
+  tests = length available ∷ length soil ∷ length snow ∷ []
 
-  pub grid-bad : gridFits g ≡ false → verdict (stateTests g covers slots water soil snow past) ≡ refused grid
+  pub grid-bad : gridFits g ≡ false → verdict (stateTests g covers slots available soil snow past) ≡ refused grid
   unfolding stateTests lentTests
   grid-bad e = fail-single _ _ grid e
 
   module _ (fits : gridFits g ≡ true) where
-    pub lent-bad : oneEach (cellsIn g) tests ≡ false → verdict (stateTests g covers slots water soil snow past) ≡ refused lent
+    pub lent-bad : oneEach (cellsIn g) tests ≡ false → verdict (stateTests g covers slots available soil snow past) ≡ refused lent
     unfolding stateTests lentTests
     lent-bad e = pass-single _ _ grid fits ∙ fail-single _ _ lent e
 
     module _ (each : oneEach (cellsIn g) tests ≡ true) where
-      pub test-nine : verdict (stateTests g covers slots water soil snow past) ≡ verdict (stateTest g covers slots water soil snow past ∷ [])
+      pub test-nine : verdict (stateTests g covers slots available soil snow past) ≡ verdict (stateTest g covers slots available soil snow past ∷ [])
       unfolding stateTests lentTests
       test-nine = pass-single _ _ grid fits ∙ pass-single _ _ lent each
 
       -- the cells first, then the past
-      state-search : lowest (suc (cellsIn g)) (stateTest g covers slots water soil snow past .fails)
-          ≡ orAt (lowest (cellsIn g) (λ i. not (storesAt covers slots water soil snow i))) (cellsIn g) (not (pastFits past))
+      state-search : lowest (suc (cellsIn g)) (stateTest g covers slots available soil snow past .fails)
+          ≡ orAt (lowest (cellsIn g) (λ i. not (storesAt covers slots available soil snow i))) (cellsIn g) (not (pastFits past))
       unfolding lowest
       state-search =
-          ap (λ (f : Found). orAt f (cellsIn g) (stateTest g covers slots water soil snow past .fails (cellsIn g)))
+          ap (λ (f : Found). orAt f (cellsIn g) (stateTest g covers slots available soil snow past .fails (cellsIn g)))
           (lowest-cong (cellsIn g) _ _ (λ i h. ap not (cond-true (ltb i (cellsIn g)) (lt-ltb i (cellsIn g) h) _ _)))
-          ∙ ap (λ (b : Bool). orAt (lowest (cellsIn g) (λ i. not (storesAt covers slots water soil snow i))) (cellsIn g) (not b))
+          ∙ ap (λ (b : Bool). orAt (lowest (cellsIn g) (λ i. not (storesAt covers slots available soil snow i))) (cellsIn g) (not b))
           (cond-false (ltb (cellsIn g) (cellsIn g)) (le-ltb (cellsIn g) (cellsIn g) (le-refl (cellsIn g))) _ _)
 
-      pub store-bad : (i : ℕ) → lowest (length water) (λ k. not (storesAt covers slots water soil snow k)) ≡ at i
-          → verdict (stateTests g covers slots water soil snow past) ≡ refused (stateAt i)
+      pub store-bad : (i : ℕ) → lowest (length available) (λ k. not (storesAt covers slots available soil snow k)) ≡ at i
+          → verdict (stateTests g covers slots available soil snow past) ≡ refused (stateAt i)
       unfolding orAt
       store-bad i found =
-          let all : length water ≡ cellsIn g = three-each _ _ _ _ each .0 in
-          test-nine ∙ fail-many [] (stateTest g covers slots water soil snow past) i (state-search ∙ rw (rw all at found) refl)
+          let all : length available ≡ cellsIn g = three-each _ _ _ _ each .0 in
+          test-nine ∙ fail-many [] (stateTest g covers slots available soil snow past) i (state-search ∙ rw (rw all at found) refl)
 
-      module _ (stores : lowest (length water) (λ k. not (storesAt covers slots water soil snow k)) ≡ nowhere) where
-        none : lowest (cellsIn g) (λ k. not (storesAt covers slots water soil snow k)) ≡ nowhere
-        none = let all : length water ≡ cellsIn g = three-each _ _ _ _ each .0 in rw all at stores
+      module _ (stores : lowest (length available) (λ k. not (storesAt covers slots available soil snow k)) ≡ nowhere) where
+        none : lowest (cellsIn g) (λ k. not (storesAt covers slots available soil snow k)) ≡ nowhere
+        none = let all : length available ≡ cellsIn g = three-each _ _ _ _ each .0 in rw all at stores
 
-        pub past-bad : pastFits past ≡ false → verdict (stateTests g covers slots water soil snow past) ≡ refused (stateAt (cellsIn g))
+        pub past-bad : pastFits past ≡ false → verdict (stateTests g covers slots available soil snow past) ≡ refused (stateAt (cellsIn g))
         unfolding orAt
-        past-bad e = test-nine ∙ fail-many [] (stateTest g covers slots water soil snow past) (cellsIn g) (state-search ∙ rw (none, e) refl)
+        past-bad e = test-nine ∙ fail-many [] (stateTest g covers slots available soil snow past) (cellsIn g) (state-search ∙ rw (none, e) refl)
 
-        pub state-good : pastFits past ≡ true → verdict (stateTests g covers slots water soil snow past) ≡ accepted
+        pub state-good : pastFits past ≡ true → verdict (stateTests g covers slots available soil snow past) ≡ accepted
         unfolding orAt verdict
-        state-good e = test-nine ∙ pass-many [] (stateTest g covers slots water soil snow past) (state-search ∙ rw (none, e) refl)
+        state-good e = test-nine ∙ pass-many [] (stateTest g covers slots available soil snow past) (state-search ∙ rw (none, e) refl)

@@ -62,17 +62,17 @@ unfolding verdict
 alike n f g called same = ap (λ (x : Found). judged x called accepted) (lowest-cong n f g same)
 
 -- any way serves
-stores-any : (covers : List ℕ) (slot water way soil snow : ℕ)
-    → storesFrom covers slot water soil snow
-    ≡ (leb soil (mostSoilOf (cellFrom covers slot water way)) && leb snow (mostSnowOf (cellFrom covers slot water way)))
+stores-any : (covers : List ℕ) (slot available way soil snow : ℕ)
+    → storesFrom covers slot available soil snow
+    ≡ (leb soil (mostSoilOf (cellFrom covers slot available way)) && leb snow (mostSnowOf (cellFrom covers slot available way)))
 unfolding storesFrom mostSoilOf mostSnowOf cellFrom
-stores-any covers slot water way soil snow = refl
+stores-any covers slot available way soil snow = refl
 
-deep-any : (covers : List ℕ) (slot water way : ℕ) (t : Today) (fall snow : ℕ)
+deep-any : (covers : List ℕ) (slot available way : ℕ) (t : Today) (fall snow : ℕ)
     → fall ≡ cond (openAt covers slot) 0 (given (t .snows?) (net (t .gross) (seasonAt covers slot (t .growing?)))) → snow ≤ mostSnow
-    → ltb mostSnow (snow + fall) ≡ tooDeep (cellFrom covers slot water way) t snow
+    → ltb mostSnow (snow + fall) ≡ tooDeep (cellFrom covers slot available way) t snow
 unfolding tooDeep storeOf netOf figureOf cellFrom seasonAt
-deep-any covers slot water way t fall snow e h =
+deep-any covers slot available way t fall snow e h =
     byCases (openAt covers slot)
     (λ o. let none : fall ≡ 0 = e ∙ cond-true (openAt covers slot) o _ _ in rw (none, add-zero snow, o) (le-ltb mostSnow snow h))
     (λ o. let falls = e ∙ cond-false (openAt covers slot) o _ _ in rw (falls, o) refl)
@@ -86,34 +86,34 @@ module _ (s : Setup) (st : State) (slots : List ℕ) (ok : Testable s st slots) 
   charted : Charted s
   charted = sound-setup s (ok .passed) .charted
 
-  waters : length (s .water) ≡ cells s
+  waters : length (s .available) ≡ cells s
   waters = waters-each s (ok .passed)
 
   fits : gridFits (s .grid) ≡ true
   unfolding gridFits
   fits = and-both _ _ (and-both _ _ (le-leb _ _ (charted .wide)) (le-leb _ _ (charted .high))) (le-leb _ _ (charted .few))
 
-  each : oneEach (cells s) (length (s .water) ∷ length (st .soil) ∷ length (st .snow) ∷ []) ≡ true
+  each : oneEach (cells s) (length (s .available) ∷ length (st .soil) ∷ length (st .snow) ∷ []) ≡ true
   unfolding oneEach
   each = and-both _ _ (eq-eqb _ _ waters) (and-both _ _ (eq-eqb _ _ (ok .soils)) (and-both _ _ (eq-eqb _ _ (ok .snows)) refl))
 
-  slotted : SlotsFit (s .covers) (cells s) slots (s .water)
+  slotted : SlotsFit (s .covers) (cells s) slots (s .available)
   slotted = slots-fit s charted (ok .lent) slots (ok .slots-are) (ok .slots-sized) waters
 
   pub table : EntriesFit (s .covers)
   table = slotted .table
 
-  cell-of : (i : ℕ) → i < cells s → cellFrom (s .covers) (getD slots i 0) (getD (s .water) i 0) (next s i) ≡ cell s i
+  cell-of : (i : ℕ) → i < cells s → cellFrom (s .covers) (getD slots i 0) (getD (s .available) i 0) (next s i) ≡ cell s i
   cell-of i h = rw (slot-at s charted (ok .lent) slots (ok .slots-are) (ok .slots-sized) waters i h) (sym (cell-is s charted i h))
 
-  stores-same : (i : ℕ) → i < cells s → storesAt (s .covers) slots (s .water) (st .soil) (st .snow) i ≡ storesFit s st i
+  stores-same : (i : ℕ) → i < cells s → storesAt (s .covers) slots (s .available) (st .soil) (st .snow) i ≡ storesFit s st i
   unfolding storesAt storesFit
   stores-same i h =
-      stores-any (s .covers) (getD slots i 0) (getD (s .water) i 0) (next s i) (soilAt st i) (snowAt st i)
+      stores-any (s .covers) (getD slots i 0) (getD (s .available) i 0) (next s i) (soilAt st i) (snowAt st i)
       ∙ ap (λ (c : Cell). leb (soilAt st i) (mostSoilOf c) && leb (snowAt st i) (mostSnowOf c)) (cell-of i h)
 
   state-same : (i : ℕ)
-      → cond (ltb i (cells s)) (storesAt (s .covers) slots (s .water) (st .soil) (st .snow) i) (pastFits (st .past)) ≡ stateFits s st i
+      → cond (ltb i (cells s)) (storesAt (s .covers) slots (s .available) (st .soil) (st .snow) i) (pastFits (st .past)) ≡ stateFits s st i
   unfolding stateFits
   state-same i =
       below-or-not i (cells s)
@@ -121,12 +121,12 @@ module _ (s : Setup) (st : State) (slots : List ℕ) (ok : Testable s st slots) 
       (λ h. rw (le-ltb i (cells s) h) refl)
 
   -- test 9 by slots is the paper's
-  pub state-paper : verdict (stateTests (s .grid) (s .covers) slots (s .water) (st .soil) (st .snow) (st .past)) ≡ verdict (ninth s st ∷ [])
+  pub state-paper : verdict (stateTests (s .grid) (s .covers) slots (s .available) (st .soil) (st .snow) (st .past)) ≡ verdict (ninth s st ∷ [])
   state-paper =
-      test-nine (s .grid) (s .covers) slots (s .water) (st .soil) (st .snow) (st .past) fits each
+      test-nine (s .grid) (s .covers) slots (s .available) (st .soil) (st .snow) (st .past) fits each
       ∙ alike (suc (cells s)) _ _ stateAt (λ i h. ap not (state-same i))
 
-  module _ (kept : verdict (stateTests (s .grid) (s .covers) slots (s .water) (st .soil) (st .snow) (st .past)) ≡ accepted) where
+  module _ (kept : verdict (stateTests (s .grid) (s .covers) slots (s .available) (st .soil) (st .snow) (st .past)) ≡ accepted) where
     lying : (i : ℕ) → i < cells s → snowAt st i ≤ mostSnow
     unfolding Passes testAt stateFits storesFit
     lying i h =
@@ -144,6 +144,6 @@ module _ (s : Setup) (st : State) (slots : List ℕ) (ok : Testable s st slots) 
         let all : min (length (st .snow)) 4096 ≡ cells s = omega (arith, ok .snows) in
         ap (λ (n : ℕ). verdict (record { places = n; fails = deepIn plots slots (st .snow); called = snowfall } ∷ [])) all
         ∙ alike (cells s) _ _ snowfall
-        (λ i h. deep-any (s .covers) (getD slots i 0) (getD (s .water) i 0) (next s i) t (fallIn plots (getD slots i 0)) (snowAt st i)
+        (λ i h. deep-any (s .covers) (getD slots i 0) (getD (s .available) i 0) (next s i) t (fallIn plots (getD slots i 0)) (snowAt st i)
         (falls .each (getD slots i 0) (slotted .slotted i h)) (lying i h)
         ∙ ap (λ (c : Cell). tooDeep c t (snowAt st i)) (cell-of i h))

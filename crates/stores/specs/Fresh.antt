@@ -7,6 +7,6 @@ use Rattle.theory.specs.Lists.{made}
 use Rattle.paper.specs.State.{mostSoilOf}
 use Rattle.covers.specs.Slots.{cellFrom}
 
-pub record Filled (covers slots water soil snow : List ℕ) : Type 0 where
-  pub soils : soil ≡ made (length water) (λ i. mostSoilOf (cellFrom covers (getD slots i 0) (getD water i 0) 0))
-  pub snows : snow ≡ made (length water) (λ i. 0)
+pub record Filled (covers slots available soil snow : List ℕ) : Type 0 where
+  pub soils : soil ≡ made (length available) (λ i. mostSoilOf (cellFrom covers (getD slots i 0) (getD available i 0) 0))
+  pub snows : snow ≡ made (length available) (λ i. 0)

@@ -11,11 +11,11 @@ use Rattle.covers.specs.Slots.{cellFrom}
 
 -- a cell's stores are within their limits
 unfoldable pub storesFrom : List ℕ → ℕ → ℕ → ℕ → ℕ → Bool
-storesFrom covers slot water soil snow =
-    leb soil (mostSoilOf (cellFrom covers slot water 0)) && leb snow (mostSnowOf (cellFrom covers slot water 0))
+storesFrom covers slot available soil snow =
+    leb soil (mostSoilOf (cellFrom covers slot available 0)) && leb snow (mostSnowOf (cellFrom covers slot available 0))
 
 unfoldable pub storesAt : List ℕ → List ℕ → List ℕ → List ℕ → List ℕ → ℕ → Bool
-storesAt covers slots water soil snow i = storesFrom covers (getD slots i 0) (getD water i 0) (getD soil i 0) (getD snow i 0)
+storesAt covers slots available soil snow i = storesFrom covers (getD slots i 0) (getD available i 0) (getD soil i 0) (getD snow i 0)
 
 -- tests 1 and 2 of some of the lent slices
 unfoldable pub lentTests : Grid → List ℕ → List Test
@@ -23,14 +23,14 @@ lentTests g lengths = single (gridFits g) grid ∷ single (oneEach (cellsIn g) l
 
 -- each cell's stores, then the past at the cell count
 abbrev pub stateTest : Grid → List ℕ → List ℕ → List ℕ → List ℕ → List ℕ → Past → Test
-stateTest g covers slots water soil snow past =
+stateTest g covers slots available soil snow past =
     record {
       places = suc (cellsIn g);
-      fails = λ i. not (cond (ltb i (cellsIn g)) (storesAt covers slots water soil snow i) (pastFits past));
+      fails = λ i. not (cond (ltb i (cellsIn g)) (storesAt covers slots available soil snow i) (pastFits past));
       called = stateAt;
     }
 
 -- tests 1 and 2 of the slices that test 9 looks at, and test 9
 unfoldable pub stateTests : Grid → List ℕ → List ℕ → List ℕ → List ℕ → List ℕ → Past → List Test
-stateTests g covers slots water soil snow past =
-    lentTests g (length water ∷ length soil ∷ length snow ∷ []) ++ (stateTest g covers slots water soil snow past ∷ [])
+stateTests g covers slots available soil snow past =
+    lentTests g (length available ∷ length soil ∷ length snow ∷ []) ++ (stateTest g covers slots available soil snow past ∷ [])

@@ -29,15 +29,21 @@ fn begin(verdict: Verdict) -> Start
 }
 
 // Fills a fresh state's stores: soil full, none on open water, and no snow.
-fn fill(covers: &[u32], slots: &[u8; MOST_CELLS], water: &[u32], soil: &mut [u32], snow: &mut [u32])
-    requires { ⌜ SlotsFit (now covers) (length (now water)) (now slots) (now water)
-        × (length (now soil) ≡ length (now water)) × (length (now snow) ≡ length (now water)) ⌝ }
-    ensures { λ r. ⌜ Filled (now (covers .entry)) (now (slots .entry)) (now (water .entry)) (now (soil .exit)) (now (snow .exit)) ⌝ }
+fn fill(
+    covers: &[u32],
+    slots: &[u8; MOST_CELLS],
+    available: &[u32],
+    soil: &mut [u32],
+    snow: &mut [u32],
+)
+    requires { ⌜ SlotsFit (now covers) (length (now available)) (now slots) (now available)
+        × (length (now soil) ≡ length (now available)) × (length (now snow) ≡ length (now available)) ⌝ }
+    ensures { λ r. ⌜ Filled (now (covers .entry)) (now (slots .entry)) (now (available .entry)) (now (soil .exit)) (now (snow .exit)) ⌝ }
 {
     let roots = root_depths(covers);
     let mut i = 0;
-    while i < water.len() {
-        soil[i] = water[i] * roots[small_place(slots[i])];
+    while i < available.len() {
+        soil[i] = available[i] * roots[small_place(slots[i])];
         snow[i] = 0;
         i += 1;
     }
@@ -51,12 +57,12 @@ pub fn fresh(
     direction: &[u32],
     cover: &[u32],
     group: &[u32],
-    water: &[u32],
+    available: &[u32],
     soil: &mut [u32],
     snow: &mut [u32],
 ) -> Start
     ensures { λ r. ⌜ freshAs r (now (soil .exit)) (now (snow .exit)) ≡ freshOf
-        (setupAs grid season (now (covers .entry)) (now (direction .entry)) (now (cover .entry)) (now (group .entry)) (now (water .entry)))
+        (setupAs grid season (now (covers .entry)) (now (direction .entry)) (now (cover .entry)) (now (group .entry)) (now (available .entry)))
         (now (soil .entry)) (now (snow .entry)) ⌝ }
 {
     if !grid.fits() {
@@ -75,7 +81,7 @@ pub fn fresh(
         direction,
         cover,
         group,
-        water,
+        available,
         &mut slots,
         &mut ways,
         &mut order,
@@ -83,6 +89,6 @@ pub fn fresh(
     let Verdict::Accepted = verdict else {
         return begin(verdict);
     };
-    fill(covers, &slots, water, soil, snow);
+    fill(covers, &slots, available, soil, snow);
     begin(verdict)
 }

@@ -53,34 +53,34 @@ fn stores_fit(
     covers: &[u32],
     roots: &[u32; MOST_SLOTS],
     slot: u8,
-    water: u32,
+    available: u32,
     soil: u32,
     snow: u32,
 ) -> bool
     requires { ⌜ now roots ≡ made 256 (groupNumberAt (now covers) 11) ⌝ }
-    ensures { λ r. ⌜ r ≡ storesFrom (now (covers .entry)) slot water soil snow ⌝ }
+    ensures { λ r. ⌜ r ≡ storesFrom (now (covers .entry)) slot available soil snow ⌝ }
 {
     let at = small_place(slot);
-    (wide(soil) <= within_32(water) * within_32(roots[at])) & snow_fits(covers, at, snow)
+    (wide(soil) <= within_32(available) * within_32(roots[at])) & snow_fits(covers, at, snow)
 }
 
 // The lowest cell with a store outside its limits.
 fn bad_store(
     covers: &[u32],
     slots: &[u8; MOST_CELLS],
-    water: &[u32],
+    available: &[u32],
     soil: &[u32],
     snow: &[u32],
 ) -> Place
-    requires { ⌜ (length (now water) ≤ 4096) × (length (now soil) ≡ length (now water)) × (length (now snow) ≡ length (now water)) ⌝ }
-    ensures { λ r. ⌜ r ≡ placeIn (lowest (length (now (water .entry)))
-        (λ i. not (storesAt (now (covers .entry)) (now (slots .entry)) (now (water .entry)) (now (soil .entry)) (now (snow .entry)) i))) ⌝ }
+    requires { ⌜ (length (now available) ≤ 4096) × (length (now soil) ≡ length (now available)) × (length (now snow) ≡ length (now available)) ⌝ }
+    ensures { λ r. ⌜ r ≡ placeIn (lowest (length (now (available .entry)))
+        (λ i. not (storesAt (now (covers .entry)) (now (slots .entry)) (now (available .entry)) (now (soil .entry)) (now (snow .entry)) i))) ⌝ }
 {
     let roots = root_depths(covers);
-    let n = water.len();
+    let n = available.len();
     let mut i = 0;
     while i < n {
-        if !stores_fit(covers, &roots, slots[i], water[i], soil[i], snow[i]) {
+        if !stores_fit(covers, &roots, slots[i], available[i], soil[i], snow[i]) {
             return Place::At(i);
         }
         i += 1;
@@ -93,22 +93,22 @@ pub fn state_verdict(
     grid: Grid,
     covers: &[u32],
     slots: &[u8; MOST_CELLS],
-    water: &[u32],
+    available: &[u32],
     soil: &[u32],
     snow: &[u32],
     past: Past,
 ) -> Verdict
-    ensures { λ r. ⌜ r ≡ verdictIn (verdict (stateTests (gridAs grid) (now (covers .entry)) (now (slots .entry)) (now (water .entry))
+    ensures { λ r. ⌜ r ≡ verdictIn (verdict (stateTests (gridAs grid) (now (covers .entry)) (now (slots .entry)) (now (available .entry))
         (now (soil .entry)) (now (snow .entry)) (pastAs past))) ⌝ }
 {
     if !grid.fits() {
         return Verdict::Refused(Refusal::Grid);
     }
     let n = grid.cells();
-    if !((water.len() == n) & stores_each(n, soil.len(), snow.len())) {
+    if !((available.len() == n) & stores_each(n, soil.len(), snow.len())) {
         return Verdict::Refused(Refusal::Lent);
     }
-    let store = bad_store(covers, slots, water, soil, snow);
+    let store = bad_store(covers, slots, available, soil, snow);
     if let Place::At(i) = store {
         return Verdict::Refused(Refusal::StateAt(i));
     }

@@ -10,7 +10,7 @@ use Rattle.theory.proofs.Cases.{and-left, and-right}
 use Rattle.paper.specs.Limits.{mostCells}
 use Rattle.paper.specs.Covers.{entries, openOf}
 use Rattle.paper.specs.Directions.{Goes, openWater, wayOf, goesBy}
-use Rattle.paper.specs.Setup.{Setup, cell, cells, entryOf, groupOf, waterOf, cellFits, isOpen, goes, pointed, next}
+use Rattle.paper.specs.Setup.{Setup, cell, cells, entryOf, groupOf, availableOf, cellFits, isOpen, goes, pointed, next}
 use Rattle.paper.proofs.SetupLaws.{Charted, entry-in, closed-by}
 use Rattle.covers.specs.Slots.{cellFrom}
 use Rattle.survey.specs.Cells.{slotOf, wayAt}
@@ -31,7 +31,7 @@ module _ (s : Setup) (ok : Charted s) (i : ℕ) (h : i < cells s) where
   pub slot-limit : slotOf s i < 4 * entries (s .covers)
   slot-limit = omega (arith, group-within, entry-in s ok i h .0)
 
-  pub cell-is : cell s i ≡ cellFrom (s .covers) (slotOf s i) (waterOf s i) (next s i)
+  pub cell-is : cell s i ≡ cellFrom (s .covers) (slotOf s i) (availableOf s i) (next s i)
   unfolding cell cellFrom isOpen
   cell-is = rw (slot-entry, slot-group, closed-by s ok i h) refl
 

@@ -19,17 +19,17 @@ pub sound-setup : (s : Setup) → checkOf s ≡ accepted → Sound s (setupLengt
 unfolding checkOf
 sound-setup s v = sound s (setupLengths s) [] (rw append-nil v)
 
-pub waters-each : (s : Setup) → checkOf s ≡ accepted → length (s .water) ≡ cells s
+pub waters-each : (s : Setup) → checkOf s ≡ accepted → length (s .available) ≡ cells s
 unfolding setupLengths oneEach
 waters-each s v =
     let each : oneEach (cells s) (setupLengths s) ≡ true = sound-setup s v .lent in eqb-true _ _ (search (and-left, and-right))
 
 module _ (s : Setup) (ok : Charted s) (lent slots : List ℕ) (slots-are : slots ≡ madeOver (cells s) (slotOf s) lent)
-    (sized : length slots ≡ 4096) (each : length (s .water) ≡ cells s) where
+    (sized : length slots ≡ 4096) (each : length (s .available) ≡ cells s) where
   pub slot-at : (i : ℕ) → i < cells s → getD slots i 0 ≡ slotOf s i
   slot-at i h = rw (slots-are) (over-at (cells s) (slotOf s) lent 0 i h)
 
-  pub slots-fit : SlotsFit (s .covers) (cells s) slots (s .water)
+  pub slots-fit : SlotsFit (s .covers) (cells s) slots (s .available)
   unfolding cellFits
   slots-fit =
       record {

@@ -15,40 +15,40 @@ use Rattle.theory.proofs.LowestLaws.{lowest-at, none-lowest}
 use Rattle.theory.specs.Lowest.{Found, at, nowhere, isFound, lowest, some}
 use Rattle.paper.specs.Limits.{within, mostAvailableWater}
 use Rattle.paper.specs.Covers.{codeOf, entries}
-use Rattle.paper.specs.Setup.{Setup, coverOf, groupOf, waterOf, entryOf, placeOr, cellFits}
+use Rattle.paper.specs.Setup.{Setup, coverOf, groupOf, availableOf, entryOf, placeOr, cellFits}
 use Rattle.covers.specs.Table.{oneMore, EntriesFit, found, indexOf}
 use Rattle.covers.proofs.TableLaws.{code-limit, count-limit}
 use Rattle.survey.specs.Cells.{slotOf, slotIn, slotAt, IndexFits}
 
-pub group-in : (group water : ℕ) → (within 1 4 group && leb water mostAvailableWater) ≡ true → (1 ≤ group) × (group ≤ 4)
-group-in group water b = (leb-true _ _ (search (and-left, and-right)), leb-true _ _ (search (and-left, and-right)))
+pub group-in : (group available : ℕ) → (within 1 4 group && leb available mostAvailableWater) ≡ true → (1 ≤ group) × (group ≤ 4)
+group-in group available b = (leb-true _ _ (search (and-left, and-right)), leb-true _ _ (search (and-left, and-right)))
 
-module _ (index : List ℕ) (code group water : ℕ) where
-  pub slot-none : getD index code 0 ≡ 0 → 256 ≡ slotIn index code group water
+module _ (index : List ℕ) (code group available : ℕ) where
+  pub slot-none : getD index code 0 ≡ 0 → 256 ≡ slotIn index code group available
   unfolding slotIn
   slot-none e = sym (cond-true (eqb (getD index code 0) 0) (eq-eqb _ _ e) _ _)
 
-  pub slot-past : IndexFits index → 256 ≤ code → 256 ≡ slotIn index code group water
+  pub slot-past : IndexFits index → 256 ≤ code → 256 ≡ slotIn index code group available
   slot-past fits h = slot-none (List·getD-eq-default index 0 {n = code} (rw (fits .sized) h))
 
-  pub slot-bad : (within 1 4 group && leb water mostAvailableWater) ≡ false → 256 ≡ slotIn index code group water
+  pub slot-bad : (within 1 4 group && leb available mostAvailableWater) ≡ false → 256 ≡ slotIn index code group available
   unfolding slotIn
   slot-bad e =
       byCases (eqb (getD index code 0) 0) (λ z. sym (cond-true (eqb (getD index code 0) 0) z _ _))
-      (λ z. sym (cond-false (eqb (getD index code 0) 0) z _ _ ∙ cond-false (within 1 4 group && leb water mostAvailableWater) e _ _))
+      (λ z. sym (cond-false (eqb (getD index code 0) 0) z _ _ ∙ cond-false (within 1 4 group && leb available mostAvailableWater) e _ _))
 
-  pub slot-good : (getD index code 0 ≡ 0 → ⊥) → (within 1 4 group && leb water mostAvailableWater) ≡ true
-      → 4 * (getD index code 0 - 1) + (group - 1) ≡ slotIn index code group water
+  pub slot-good : (getD index code 0 ≡ 0 → ⊥) → (within 1 4 group && leb available mostAvailableWater) ≡ true
+      → 4 * (getD index code 0 - 1) + (group - 1) ≡ slotIn index code group available
   unfolding slotIn
   slot-good some e =
       sym (cond-false (eqb (getD index code 0) 0) (ne-eqb _ _ some) _ _
-      ∙ cond-true (within 1 4 group && leb water mostAvailableWater) e _ _)
+      ∙ cond-true (within 1 4 group && leb available mostAvailableWater) e _ _)
 
   -- a slot that is one has an entry of the index, and one of the four groups
-  pub slot-below : (slot entries : ℕ) → slot ≡ slotIn index code group water → (slot ≡ 256 → ⊥) → getD index code 0 ≤ entries → slot < 4 * entries
+  pub slot-below : (slot entries : ℕ) → slot ≡ slotIn index code group available → (slot ≡ 256 → ⊥) → getD index code 0 ≤ entries → slot < 4 * entries
   slot-below slot entries e some held =
       byCases (eqb (getD index code 0) 0) (λ z. absurd (some (e ∙ sym (slot-none (eqb-true _ _ z)))))
-      (λ z. byCases (within 1 4 group && leb water mostAvailableWater)
+      (λ z. byCases (within 1 4 group && leb available mostAvailableWater)
       (λ b.
       let present : getD index code 0 ≡ 0 → ⊥ = eqb-false _ _ z in
       let group-most : group ≤ 4 = leb-true _ _ (search (and-left, and-right)) in
@@ -92,15 +92,15 @@ module _ (covers index : List ℕ) (fit : EntriesFit covers) (known : index ≡ 
 
   -- the slot that is found where the search finds f
   slot-by : Found → ℕ → ℕ → ℕ
-  slot-by f group water = cond (eqb (oneMore f) 0) 256 (cond (within 1 4 group && leb water mostAvailableWater) (4 * (oneMore f - 1) + (group - 1)) 256)
+  slot-by f group available = cond (eqb (oneMore f) 0) 256 (cond (within 1 4 group && leb available mostAvailableWater) (4 * (oneMore f - 1) + (group - 1)) 256)
 
-  slot-found : (f : Found) (group water : ℕ) → oneMore f ≤ 64
-      → eqb (slot-by f group water) 256 ≡ not (isFound f && within 1 4 group && leb water mostAvailableWater)
+  slot-found : (f : Found) (group available : ℕ) → oneMore f ≤ 64
+      → eqb (slot-by f group available) 256 ≡ not (isFound f && within 1 4 group && leb available mostAvailableWater)
   unfolding slot-by oneMore isFound
-  slot-found nowhere group water h = refl
-  slot-found (at e) group water h =
+  slot-found nowhere group available h = refl
+  slot-found (at e) group available h =
       rw (ne-eqb (suc e) 0 (λ (z : suc e ≡ 0). omega arith))
-      (byCases (within 1 4 group && leb water mostAvailableWater)
+      (byCases (within 1 4 group && leb available mostAvailableWater)
       (λ b.
       let group-most : group ≤ 4 = leb-true _ _ (search (and-left, and-right)) in
       rw b (ne-eqb (4 * (suc e - 1) + (group - 1)) 256 (λ (z : 4 * (suc e - 1) + (group - 1) ≡ 256). omega arith)))
@@ -108,26 +108,26 @@ module _ (covers index : List ℕ) (fit : EntriesFit covers) (known : index ≡ 
 
 module _ (s : Setup) (index : List ℕ) (fit : EntriesFit (s .covers)) (known : index ≡ indexOf (s .covers) (entries (s .covers))) where
   slot-at : (i : ℕ)
-      → slotAt index (s .cover) (s .group) (s .water) i
-      ≡ slot-by (s .covers) index fit known (lowest (entries (s .covers)) (λ e. eqb (codeOf (s .covers) e) (coverOf s i))) (groupOf s i) (waterOf s i)
+      → slotAt index (s .cover) (s .group) (s .available) i
+      ≡ slot-by (s .covers) index fit known (lowest (entries (s .covers)) (λ e. eqb (codeOf (s .covers) e) (coverOf s i))) (groupOf s i) (availableOf s i)
   unfolding slotIn slot-by
   slot-at i = rw (index-at (s .covers) index fit known (coverOf s i)) refl
 
   -- a cell has no slot exactly where test 4 fails it
-  pub slot-test : (i : ℕ) → eqb (slotAt index (s .cover) (s .group) (s .water) i) 256 ≡ not (cellFits s i)
+  pub slot-test : (i : ℕ) → eqb (slotAt index (s .cover) (s .group) (s .available) i) 256 ≡ not (cellFits s i)
   unfolding cellFits some
   slot-test i =
       rw (slot-at i)
-      (slot-found (s .covers) index fit known _ (groupOf s i) (waterOf s i)
+      (slot-found (s .covers) index fit known _ (groupOf s i) (availableOf s i)
       (le-trans (more-most (entries (s .covers)) _ _ refl) (count-limit (s .covers) fit)))
 
   -- and where it passes, the slot is that of its entry and group
-  pub slot-is : (i : ℕ) → cellFits s i ≡ true → slotAt index (s .cover) (s .group) (s .water) i ≡ slotOf s i
+  pub slot-is : (i : ℕ) → cellFits s i ≡ true → slotAt index (s .cover) (s .group) (s .available) i ≡ slotOf s i
   unfolding slot-by cellFits some entryOf placeOr isFound oneMore
   slot-is i fits = slot-at i ∙ go (lowest (entries (s .covers)) (λ e. eqb (codeOf (s .covers) e) (coverOf s i))) fits
     where
-      go : (f : Found) → (isFound f && within 1 4 (groupOf s i) && leb (waterOf s i) mostAvailableWater) ≡ true
-          → slot-by (s .covers) index fit known f (groupOf s i) (waterOf s i) ≡ 4 * placeOr (entries (s .covers)) f + (groupOf s i - 1)
+      go : (f : Found) → (isFound f && within 1 4 (groupOf s i) && leb (availableOf s i) mostAvailableWater) ≡ true
+          → slot-by (s .covers) index fit known f (groupOf s i) (availableOf s i) ≡ 4 * placeOr (entries (s .covers)) f + (groupOf s i - 1)
       go nowhere b = absurd (false≢true b)
       go (at e) b =
           rw (ne-eqb (suc e) 0 (λ (z : suc e ≡ 0). omega arith), b)

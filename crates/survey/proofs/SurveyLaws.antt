@@ -95,12 +95,12 @@ module _ (s : Setup) (lent ways₀ : List ℕ) (pre : Surveyable s) (table : ver
   fit = accepted-table (s .covers) table
 
   abbrev slot : ℕ → ℕ
-  slot = slotAt index (s .cover) (s .group) (s .water)
+  slot = slotAt index (s .cover) (s .group) (s .available)
 
   abbrev way : ℕ → ℕ
   way = wayAt (s .grid .width) (s .grid .height) (s .covers) slot (s .direction)
 
-  pub lay-ask : Layable (s .grid .width) (s .grid .height) index (s .covers) (s .direction) (s .cover) (s .group) (s .water) lent ways₀
+  pub lay-ask : Layable (s .grid .width) (s .grid .height) index (s .covers) (s .direction) (s .cover) (s .group) (s .available) lent ways₀
   unfolding cellsIn
   lay-ask =
       record {

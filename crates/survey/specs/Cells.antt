@@ -24,22 +24,22 @@ abbrev pub slotOf : Setup → ℕ → ℕ
 slotOf s i = 4 * entryOf s i + (groupOf s i - 1)
 
 -- a table that fits, and n cells that it has, in an array of slots
-pub record SlotsFit (covers : List ℕ) (n : ℕ) (slots water : List ℕ) : Type 0 where
+pub record SlotsFit (covers : List ℕ) (n : ℕ) (slots available : List ℕ) : Type 0 where
   pub table : EntriesFit covers
   pub few : n ≤ mostCells
   pub sized : length slots ≡ 4096
   pub slotted : (i : ℕ) → i < n → getD slots i 0 < 4 * entries covers
-  pub each : length water ≡ n
-  pub watered : (i : ℕ) → i < n → getD water i 0 ≤ mostAvailableWater
+  pub each : length available ≡ n
+  pub watered : (i : ℕ) → i < n → getD available i 0 ≤ mostAvailableWater
 
 -- the slot of a cell's three numbers, 256 where they do not fit
 unfoldable pub slotIn : List ℕ → ℕ → ℕ → ℕ → ℕ
-slotIn index code group water =
+slotIn index code group available =
     cond (eqb (getD index code 0) 0) 256
-    (cond (within 1 4 group && leb water mostAvailableWater) (4 * (getD index code 0 - 1) + (group - 1)) 256)
+    (cond (within 1 4 group && leb available mostAvailableWater) (4 * (getD index code 0 - 1) + (group - 1)) 256)
 
 abbrev pub slotAt : List ℕ → List ℕ → List ℕ → List ℕ → ℕ → ℕ
-slotAt index cover group water i = slotIn index (getD cover i 0) (getD group i 0) (getD water i 0)
+slotAt index cover group available i = slotIn index (getD cover i 0) (getD group i 0) (getD available i 0)
 
 -- an index of at most 64 entries
 pub record IndexFits (index : List ℕ) : Type 0 where
@@ -58,7 +58,7 @@ wayAt width height covers slot direction i =
     (pointed (goesBy width height i (wayOf (getD direction i 0))))
 
 -- a grid of at most 4,096 cells with one entry each, an index of the table's entries, and arrays with room for the slots and the ways
-pub record Layable (width height : ℕ) (index covers direction cover group water slots ways : List ℕ) : Type 0 where
+pub record Layable (width height : ℕ) (index covers direction cover group available slots ways : List ℕ) : Type 0 where
   pub wide : 1 ≤ width
   pub few : width * height ≤ mostCells
   pub indexed : IndexFits index
@@ -66,7 +66,7 @@ pub record Layable (width height : ℕ) (index covers direction cover group wate
   pub directions : length direction ≡ width * height
   pub coded : length cover ≡ width * height
   pub grouped : length group ≡ width * height
-  pub watered : length water ≡ width * height
+  pub watered : length available ≡ width * height
   pub slots-sized : length slots ≡ 4096
   pub ways-sized : length ways ≡ 4096
 

@@ -27,23 +27,23 @@ pub record Surveyable (s : Setup) : Type 0 where
   pub directions : length (s .direction) ≡ cells s
   pub covers : length (s .cover) ≡ cells s
   pub groups : length (s .group) ≡ cells s
-  pub waters : length (s .water) ≡ cells s
+  pub waters : length (s .available) ≡ cells s
 
 -- the arrays of a setup that passed: past the cells the slots and the ways are as they were lent
-pub record Mapped (s : Setup) (lent ways₀ slots ways order : List ℕ) : Type 0 where
-  pub slots-are : slots ≡ madeOver (cells s) (slotOf s) lent
+pub record Mapped (s : Setup) (slots₀ ways₀ slots ways order : List ℕ) : Type 0 where
+  pub slots-are : slots ≡ madeOver (cells s) (slotOf s) slots₀
   pub slots-sized : length slots ≡ 4096
   pub ways-are : ways ≡ madeOver (cells s) (next s) ways₀
   pub ways-sized : length ways ≡ 4096
   pub ordered : OrderedBy (cells s) (next s) order
 
 -- after tests 3 to 6
-pub record Chart (s : Setup) (lent ways₀ : List ℕ) (r : Verdict) (slots ways order : List ℕ) : Type 0 where
+pub record Chart (s : Setup) (slots₀ ways₀ : List ℕ) (r : Verdict) (slots ways order : List ℕ) : Type 0 where
   pub verdict-is : r ≡ verdictIn (verdict (mapTests s))
-  pub mapped : verdict (mapTests s) ≡ accepted → Mapped s lent ways₀ slots ways order
+  pub mapped : verdict (mapTests s) ≡ accepted → Mapped s slots₀ ways₀ slots ways order
 
 -- after tests 1 to 6: refused, the arrays are wiped
-pub record Surveyed (s : Setup) (lent ways₀ : List ℕ) (r : Verdict) (slots ways order : List ℕ) : Type 0 where
+pub record Surveyed (s : Setup) (slots₀ ways₀ : List ℕ) (r : Verdict) (slots ways order : List ℕ) : Type 0 where
   pub verdict-is : r ≡ verdictIn (checkOf s)
-  pub mapped : checkOf s ≡ accepted → Mapped s lent ways₀ slots ways order
+  pub mapped : checkOf s ≡ accepted → Mapped s slots₀ ways₀ slots ways order
   pub wiped : (why : Refusal) → checkOf s ≡ refused why → Wiped slots ways order

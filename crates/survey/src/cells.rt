@@ -25,9 +25,9 @@ const GROUPS: u32 = 4;
 const MOST_AVAILABLE_WATER: u32 = 600;
 
 // A cell's slot, 4 × its cover's entry + its group - 1, where its three numbers are within their limits.
-fn slot(index: &[u8; CODES], code: u32, group: u32, water: u32) -> usize
+fn slot(index: &[u8; CODES], code: u32, group: u32, available: u32) -> usize
     requires { ⌜ IndexFits (now index) ⌝ }
-    ensures { λ r. ⌜ (r ≡ slotIn (now (index .entry)) code group water) × (r ≤ 256) ⌝ }
+    ensures { λ r. ⌜ (r ≡ slotIn (now (index .entry)) code group available) × (r ≤ 256) ⌝ }
 {
     let at = place(code);
     if CODES <= at {
@@ -37,7 +37,7 @@ fn slot(index: &[u8; CODES], code: u32, group: u32, water: u32) -> usize
     if entry == 0 {
         return NO_SLOT;
     }
-    if !(((1 <= group) & (group <= GROUPS)) & (water <= MOST_AVAILABLE_WATER)) {
+    if !(((1 <= group) & (group <= GROUPS)) & (available <= MOST_AVAILABLE_WATER)) {
         return NO_SLOT;
     }
     4 * (entry - 1) + (place(group) - 1)
@@ -63,17 +63,17 @@ pub(crate) fn lay_cells(
     direction: &[u32],
     cover: &[u32],
     group: &[u32],
-    water: &[u32],
+    available: &[u32],
     slots: &mut [u8],
     ways: &mut [u32],
     order: &mut [u32; MOST_CELLS],
 ) -> Place
-    requires { ⌜ Layable width height (now index) (now covers) (now direction) (now cover) (now group) (now water)
+    requires { ⌜ Layable width height (now index) (now covers) (now direction) (now cover) (now group) (now available)
         (now slots) (now ways) ⌝ }
     ensures { λ r. ⌜ LaidOrBad (width * height)
-        (slotAt (now (index .entry)) (now (cover .entry)) (now (group .entry)) (now (water .entry)))
+        (slotAt (now (index .entry)) (now (cover .entry)) (now (group .entry)) (now (available .entry)))
         (wayAt width height (now (covers .entry))
-        (slotAt (now (index .entry)) (now (cover .entry)) (now (group .entry)) (now (water .entry))) (now (direction .entry)))
+        (slotAt (now (index .entry)) (now (cover .entry)) (now (group .entry)) (now (available .entry))) (now (direction .entry)))
         r (now (slots .entry)) (now (slots .exit)) (now (ways .entry)) (now (ways .exit)) (now (order .exit)) ⌝ }
 {
     let n = cover.len();
@@ -82,7 +82,7 @@ pub(crate) fn lay_cells(
     let mut column = 0;
     let mut i = 0;
     while i < n {
-        let found = slot(index, cover[i], group[i], water[i]);
+        let found = slot(index, cover[i], group[i], available[i]);
         if found == NO_SLOT {
             return Place::At(i);
         }

@@ -25,13 +25,13 @@ fn chart(
     direction: &[u32],
     cover: &[u32],
     group: &[u32],
-    water: &[u32],
+    available: &[u32],
     slots: &mut [u8; MOST_CELLS],
     ways: &mut [u32; MOST_CELLS],
     order: &mut [u32; MOST_CELLS],
 ) -> Verdict
-    requires { ⌜ Surveyable (setupAs grid season (now covers) (now direction) (now cover) (now group) (now water)) ⌝ }
-    ensures { λ r. ⌜ Chart (setupAs grid season (now (covers .entry)) (now (direction .entry)) (now (cover .entry)) (now (group .entry)) (now (water .entry)))
+    requires { ⌜ Surveyable (setupAs grid season (now covers) (now direction) (now cover) (now group) (now available)) ⌝ }
+    ensures { λ r. ⌜ Chart (setupAs grid season (now (covers .entry)) (now (direction .entry)) (now (cover .entry)) (now (group .entry)) (now (available .entry)))
         (now (slots .entry)) (now (ways .entry)) r (now (slots .exit)) (now (ways .exit)) (now (order .exit)) ⌝ }
 {
     let mut index = [0u8; CODES];
@@ -47,7 +47,7 @@ fn chart(
         direction,
         cover,
         group,
-        water,
+        available,
         slots,
         ways,
         order,
@@ -83,12 +83,12 @@ pub fn survey(
     direction: &[u32],
     cover: &[u32],
     group: &[u32],
-    water: &[u32],
+    available: &[u32],
     slots: &mut [u8; MOST_CELLS],
     ways: &mut [u32; MOST_CELLS],
     order: &mut [u32; MOST_CELLS],
 ) -> Verdict
-    ensures { λ r. ⌜ Surveyed (setupAs grid season (now (covers .entry)) (now (direction .entry)) (now (cover .entry)) (now (group .entry)) (now (water .entry)))
+    ensures { λ r. ⌜ Surveyed (setupAs grid season (now (covers .entry)) (now (direction .entry)) (now (cover .entry)) (now (group .entry)) (now (available .entry)))
         (now (slots .entry)) (now (ways .entry)) r (now (slots .exit)) (now (ways .exit)) (now (order .exit)) ⌝ }
 {
     if !grid.fits() {
@@ -100,7 +100,7 @@ pub fn survey(
         direction.len(),
         cover.len(),
         group.len(),
-        water.len(),
+        available.len(),
     ) {
         wipe(slots, ways, order);
         return Verdict::Refused(Refusal::Lent);
@@ -112,7 +112,7 @@ pub fn survey(
         direction,
         cover,
         group,
-        water,
+        available,
         slots,
         ways,
         order,
@@ -132,10 +132,10 @@ pub fn check(
     direction: &[u32],
     cover: &[u32],
     group: &[u32],
-    water: &[u32],
+    available: &[u32],
 ) -> Verdict
     ensures { λ r. ⌜ r ≡ verdictIn (checkOf
-        (setupAs grid season (now (covers .entry)) (now (direction .entry)) (now (cover .entry)) (now (group .entry)) (now (water .entry)))) ⌝ }
+        (setupAs grid season (now (covers .entry)) (now (direction .entry)) (now (cover .entry)) (now (group .entry)) (now (available .entry)))) ⌝ }
 {
     let mut slots = [0u8; MOST_CELLS];
     let mut ways = [0u32; MOST_CELLS];
@@ -147,7 +147,7 @@ pub fn check(
         direction,
         cover,
         group,
-        water,
+        available,
         &mut slots,
         &mut ways,
         &mut order,

@@ -12,7 +12,7 @@ use Rattle.clib.proofs.HandedLaws.{memory-unkept, last-unkept, both-kep
 abbrev the-setup : tie.Start → Setup
 the-setup c =
     setupFrom (c .args .width) (c .args .height) (c .args .first) (c .args .last) (c .args .covers .now) (c .args .direction .now)
-    (c .args .cover .now) (c .args .group .now) (c .args .water .now)
+    (c .args .cover .now) (c .args .group .now) (c .args .available .now)
 
 abbrev the-stores : tie.Start → Stores
 the-stores c = storesFrom (c .args .soil .now) (c .args .snow .now) (c .args .memory .now) (c .args .last-serial .now)

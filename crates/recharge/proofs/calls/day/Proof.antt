@@ -27,7 +27,7 @@ start c = c .before .before .before .before .before .before .before .before .bef
 abbrev setup : tie.Start → Setup
 setup c =
     setupAs (c .args .grid) (c .args .season) (c .args .covers .now) (c .args .direction .now) (c .args .cover .now) (c .args .group .now)
-    (c .args .water .now)
+    (c .args .available .now)
 
 abbrev state : tie.Start → State
 state c = stateAs (c .args .soil .now) (c .args .snow .now) (c .args .past)

@@ -12,13 +12,13 @@ use Rattle.recharge.proofs.downhill.downhill.Statement.{statement}
 use Rattle.recharge.proofs.downhill.downhill.Tie as tie
 
 abbrev Inv-loop : tie.InvT-loop
-Inv-loop today plots slots ways order water soil₀ snow₀ intercepted₀ outflow₀ evapotranspired₀ recharged₀ rejected₀ n gross f arrived₀ totals₀ turn₀ soil snow intercepted outflow evapotranspired recharged rejected arrived totals turn =
-    Pass (todayAs today) plots slots ways order water (slicesOf soil₀ snow₀ intercepted₀ outflow₀ evapotranspired₀ recharged₀ rejected₀) turn (totalsAs totals) f arrived
+Inv-loop today plots slots ways order available soil₀ snow₀ intercepted₀ outflow₀ evapotranspired₀ recharged₀ rejected₀ n gross f arrived₀ totals₀ turn₀ soil snow intercepted outflow evapotranspired recharged rejected arrived totals turn =
+    Pass (todayAs today) plots slots ways order available (slicesOf soil₀ snow₀ intercepted₀ outflow₀ evapotranspired₀ recharged₀ rejected₀) turn (totalsAs totals) f arrived
     (slicesOf soil snow intercepted outflow evapotranspired recharged rejected)
 
 abbrev μ-loop : tie.MeasureT-loop
-μ-loop today plots slots ways order water soil₀ snow₀ intercepted₀ outflow₀ evapotranspired₀ recharged₀ rejected₀ n gross f arrived₀ totals₀ turn₀ soil snow intercepted outflow evapotranspired recharged rejected arrived totals turn =
-    length water - turn
+μ-loop today plots slots ways order available soil₀ snow₀ intercepted₀ outflow₀ evapotranspired₀ recharged₀ rejected₀ n gross f arrived₀ totals₀ turn₀ soil snow intercepted outflow evapotranspired recharged rejected arrived totals turn =
+    length available - turn
 
 -- from a cell's figures back to its place in the order
 abbrev turned : tie.After-add-cell Inv-loop μ-loop → tie.After-place Inv-loop μ-loop
@@ -30,11 +30,11 @@ small c = pass-small (c .before .before .before .loop .inv) (c .before .before .
 -- one entry a cell
 sized : (c : tie.After-add-cell Inv-loop μ-loop)
     → let l = turned c .before .before .before in
-    Sized (length (l .before .before .before .before .before .before .before .before .before .before .before .before .args .water .now))
+    Sized (length (l .before .before .before .before .before .before .before .before .before .before .before .before .args .available .now))
     (slicesOf (l .loop .soil) (l .loop .snow) (l .loop .intercepted) (l .loop .outflow) (l .loop .evapotranspired) (l .loop .recharged) (l .loop .rejected))
 sized c = pass-sized (turned c .before .before .before .loop .inv)
 
-inside : (c : tie.After-add-cell Inv-loop μ-loop) → turned c .place .result < length (turned c .before .before .before .before .before .before .before .before .before .before .before .before .before .before .before .args .water .now)
+inside : (c : tie.After-add-cell Inv-loop μ-loop) → turned c .place .result < length (turned c .before .before .before .before .before .before .before .before .before .before .before .before .before .before .before .args .available .now)
 inside c = let p = turned c in pass-inside (p .before .before .before .loop .inv) (p .before .before .loop-test .taken) _ (p .place .ensures)
 
 retention-requires : tie.Need-retention-requires Inv-loop μ-loop

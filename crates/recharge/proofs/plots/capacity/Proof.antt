@@ -9,7 +9,7 @@ use Rattle.recharge.proofs.plots.capacity.Tie as tie
 mul-t5 : tie.Need-mul-t5
 mul-t5 c =
     let a = c .args in
-    let wet : a .water ≤ 4294967295 = omega arith in
+    let wet : a .available ≤ 4294967295 = omega arith in
     let deep : a .roots ≤ 4294967295 = omega arith in
     omega (arith, mul-le-mul wet deep)
 

@@ -23,7 +23,7 @@ use Rattle.recharge.proofs.tests.tests.Tie as tie
 abbrev setup : tie.Start → Setup
 setup s =
     setupAs (s .args .grid) (s .args .season) (s .args .covers .now) (s .args .direction .now) (s .args .cover .now) (s .args .group .now)
-    (s .args .water .now)
+    (s .args .available .now)
 
 abbrev state : tie.Start → State
 state s = stateAs (s .args .soil .now) (s .args .snow .now) (s .args .past)

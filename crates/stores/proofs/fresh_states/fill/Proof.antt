@@ -15,17 +15,17 @@ use Rattle.stores.proofs.fresh_states.fill.Statement.{statement}
 use Rattle.stores.proofs.fresh_states.fill.Tie as tie
 
 abbrev Inv-loop : tie.InvT-loop
-Inv-loop covers slots water soil₀ snow₀ roots i₀ soil snow i =
-    (i ≤ length water)
-    × (soil ≡ madeOver i (λ k. mostSoilOf (cellFrom covers (getD slots k 0) (getD water k 0) 0)) soil₀)
+Inv-loop covers slots available soil₀ snow₀ roots i₀ soil snow i =
+    (i ≤ length available)
+    × (soil ≡ madeOver i (λ k. mostSoilOf (cellFrom covers (getD slots k 0) (getD available k 0) 0)) soil₀)
     × (snow ≡ madeOver i (λ k. 0) snow₀)
-    × (length soil₀ ≡ length water)
-    × (length snow₀ ≡ length water)
-    × SlotsFit covers (length water) slots water
+    × (length soil₀ ≡ length available)
+    × (length snow₀ ≡ length available)
+    × SlotsFit covers (length available) slots available
     × (roots ≡ made 256 (groupNumberAt covers 11))
 
 abbrev μ-loop : tie.MeasureT-loop
-μ-loop covers slots water soil₀ snow₀ roots i₀ soil snow i = length water - i
+μ-loop covers slots available soil₀ snow₀ roots i₀ soil snow i = length available - i
 
 loop-holds : tie.Need-loop-holds Inv-loop μ-loop
 loop-holds c =
@@ -52,11 +52,11 @@ slice-write-snow c = let inv = head c .loop .inv in over-room _ _ _ _ (inv .2) (
 
 -- what is written into the cell's soil
 full : (c : tie.After-small-place Inv-loop μ-loop)
-    → getD (start c .args .water .now) (head c .loop .i) 0 * getD (head c .before .root-depths .result) (c .small-place .result) 0
-    ≡ mostSoilOf (cellFrom (start c .args .covers .now) (getD (start c .args .slots .now) (head c .loop .i) 0) (getD (start c .args .water .now) (head c .loop .i) 0) 0)
+    → getD (start c .args .available .now) (head c .loop .i) 0 * getD (head c .before .root-depths .result) (c .small-place .result) 0
+    ≡ mostSoilOf (cellFrom (start c .args .covers .now) (getD (start c .args .slots .now) (head c .loop .i) 0) (getD (start c .args .available .now) (head c .loop .i) 0) 0)
 full c =
     let l = head c .loop in
-    ap (λ (k : ℕ). getD (start c .args .water .now) (l .i) 0 * getD (head c .before .root-depths .result) k 0) (c .small-place .ensures .0)
+    ap (λ (k : ℕ). getD (start c .args .available .now) (l .i) 0 * getD (head c .before .root-depths .result) k 0) (c .small-place .ensures .0)
     ∙ full-is _ _ _ _ (l .inv .5) (l .inv .6) (l .i) (c .before .before .before .loop-test .taken)
 
 loop-again : tie.Need-loop-again Inv-loop μ-loop
@@ -81,7 +81,7 @@ same-length-2 c = let inv = c .before .loop .inv in ap length (inv .2) ∙ over-
 returns : tie.Need-returns Inv-loop μ-loop
 returns c =
     let inv = c .before .loop .inv in
-    let all : c .before .loop .i ≡ length (c .before .before .before .before .before .before .before .args .water .now) = omega (arith, inv .0) in
+    let all : c .before .loop .i ≡ length (c .before .before .before .before .before .before .before .args .available .now) = omega (arith, inv .0) in
     record {
       soils = inv .1 ∙ rw all (over-all _ _ _ (inv .3));
       snows = inv .2 ∙ rw all (over-all {A = ℕ} _ _ _ (inv .4));

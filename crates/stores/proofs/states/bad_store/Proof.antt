@@ -12,11 +12,11 @@ use Rattle.stores.proofs.states.bad_store.Statement.{statement}
 use Rattle.stores.proofs.states.bad_store.Tie as tie
 
 abbrev Inv-loop : tie.InvT-loop
-Inv-loop covers slots water soil snow roots n i₀ i =
-    (n ≡ length water) × (i ≤ n) × PassedTo (λ k. not (storesAt covers slots water soil snow k)) i
+Inv-loop covers slots available soil snow roots n i₀ i =
+    (n ≡ length available) × (i ≤ n) × PassedTo (λ k. not (storesAt covers slots available soil snow k)) i
 
 abbrev μ-loop : tie.MeasureT-loop
-μ-loop covers slots water soil snow roots n i₀ i = n - i
+μ-loop covers slots available soil snow roots n i₀ i = n - i
 
 loop-holds : tie.Need-loop-holds Inv-loop μ-loop
 loop-holds c = (search needs, search needs, λ j h. absurd (not-suc-le-zero h))

@@ -36,9 +36,9 @@ module _ (c : tie.After-stores-each) where
   a = entry (c .before .before)
 
   abbrev lengths : List ℕ
-  lengths = length (a .args .water .now) ∷ length (a .args .soil .now) ∷ length (a .args .snow .now) ∷ []
+  lengths = length (a .args .available .now) ∷ length (a .args .soil .now) ∷ length (a .args .snow .now) ∷ []
 
-  each-is : (eqb (length (a .args .water .now)) (c .before .cells .result) && c .stores-each .result)
+  each-is : (eqb (length (a .args .available .now)) (c .before .cells .result) && c .stores-each .result)
       ≡ oneEach (cellsIn (gridAs (a .args .grid))) lengths
   unfolding oneEach
   each-is = rw (c .stores-each .ensures, c .before .cells .ensures) refl

@@ -19,7 +19,7 @@ returns c =
       c .snow-fits .ensures,
       small .ensures .0,
     )
-    (stores-limits _ _ (start .pre) (start .args .slot) (start .args .water) (start .args .soil) (start .args .snow)
+    (stores-limits _ _ (start .pre) (start .args .slot) (start .args .available) (start .args .soil) (start .args .snow)
     (rw (small .ensures .0) at (small .ensures .1)))
 
 pub stores-fit-spec : {M : Type 1} → statement M

@@ -19,12 +19,12 @@ use Rattle.survey.proofs.cells.lay_cells.Statement.{statement}
 use Rattle.survey.proofs.cells.lay_cells.Tie as tie
 
 abbrev Inv-loop : tie.InvT-loop
-Inv-loop width height index covers direction cover group water slots₀ ways₀ order₀ n row₀ column₀ i₀ slots ways order row column i =
+Inv-loop width height index covers direction cover group available slots₀ ways₀ order₀ n row₀ column₀ i₀ slots ways order row column i =
     (n ≡ width * height)
-    × Laid width height covers direction (slotAt index cover group water) slots₀ ways₀ slots ways order row column i
+    × Laid width height covers direction (slotAt index cover group available) slots₀ ways₀ slots ways order row column i
 
 abbrev μ-loop : tie.MeasureT-loop
-μ-loop width height index covers direction cover group water slots₀ ways₀ order₀ n row₀ column₀ i₀ slots ways order row column i = n - i
+μ-loop width height index covers direction cover group available slots₀ ways₀ order₀ n row₀ column₀ i₀ slots ways order row column i = n - i
 
 -- the places: the start, the head of the loop, and where the cell has its slot and its way
 abbrev start : tie.At-loop Inv-loop μ-loop → tie.Start Inv-loop μ-loop

@@ -25,7 +25,7 @@ returns-3 c = (slot-bad _ _ _ _ (not-true _ (c .if3 .taken)), search needs)
 sub-result-2 : tie.Need-sub-result-2
 sub-result-2 c =
     let a = c .before .before .before .before .before .before .before .args in
-    omega (arith, c .place2 .ensures, group-in (a .group) (a .water) (not-false _ (c .before .if3 .left)))
+    omega (arith, c .place2 .ensures, group-in (a .group) (a .available) (not-false _ (c .before .if3 .left)))
 
 returns-4 : tie.Need-returns-4
 returns-4 c =
@@ -33,7 +33,7 @@ returns-4 c =
     let entry = entry-is (c .before .before .before) in
     let start = c .before .before .before .before .before .before .before in (
       rw (entry, c .place2 .ensures) (slot-good _ _ _ _ (λ e. c .before .before .if2 .left (entry ∙ e)) fits),
-      omega (arith, entry, c .place2 .ensures, group-in (start .args .group) (start .args .water) fits, start .pre .few (start .args .code)),
+      omega (arith, entry, c .place2 .ensures, group-in (start .args .group) (start .args .available) fits, start .pre .few (start .args .code)),
     )
 
 pub slot-spec : {M : Type 1} → statement M

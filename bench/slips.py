@@ -1,0 +1,61 @@
+#!/usr/bin/env python3
+"""Tries small slips in the paper's definitions: each must be refused by the paper's own laws.
+
+    bench/slips.py [EACH]
+
+Works on a copy of theory and paper in a temporary folder. A slip changes one place of crates/paper/specs: a number one up or one down, ltb for leb or leb
+for ltb, && for ||, + for - or - for +. Of all slips every EACH-th is tried (default: all, some
+minutes each hundred). Prints the slips that pass, with file and line, and their count; docs/PROMISES.md names those that never show. Needs python3 and rt."""
+import os, re, shutil, subprocess, sys, tempfile
+from pathlib import Path
+
+ROOT = Path(__file__).resolve().parent.parent
+SWAPS = [("ltb", "leb"), ("leb", "ltb"), ("&&", "||"), (" + ", " - "), (" - ", " + ")]
+
+
+def places(line):
+    """Every slip of one line, as the line that it makes."""
+    if re.match(r"\s*(--|use |pub mod|[\w,\s]*}?$)", line) and "=" not in line:
+        return
+    code = line.split("--")[0]
+    for m in re.finditer(r"(?<![\w'-])(?<!Type )\d+(?![\w'-])", code):
+        for n in (int(m.group()) + 1, int(m.group()) - 1):
+            if n >= 0:
+                yield line[: m.start()] + str(n) + line[m.end():]
+    if " = " in code or code.startswith("    "):
+        for old, new in SWAPS:
+            for m in re.finditer(re.escape(old) if not old.isalpha() else r"\b%s\b" % old, code):
+                yield line[: m.start()] + new + line[m.end():]
+
+
+def main():
+    each = int(sys.argv[1]) if len(sys.argv) > 1 else 1
+    with tempfile.TemporaryDirectory() as room:
+        for name in ("theory", "paper"):
+            shutil.copytree(ROOT / "crates" / name, Path(room) / "crates" / name)
+        (Path(room) / "crates.txt").write_text("theory:\npaper: theory\n")
+
+        def holds():
+            return subprocess.run(["rt", "check", "paper"], cwd=room, capture_output=True).returncode == 0
+
+        if not holds():
+            sys.exit("slips: the paper itself is not proved")
+        tried = passed = count = 0
+        for path in sorted((Path(room) / "crates/paper/specs").glob("*.antt")):
+            whole = path.read_text()
+            lines = whole.split("\n")
+            for at, line in enumerate(lines):
+                for slip in places(line):
+                    count += 1
+                    if count % each:
+                        continue
+                    tried += 1
+                    path.write_text("\n".join(lines[:at] + [slip] + lines[at + 1:]))
+                    if holds():
+                        passed += 1
+                        print(f"{path.name}:{at + 1}: {slip.strip()}", flush=True)
+            path.write_text(whole)
+        print(f"{tried} slips tried, {passed} pass")
+
+
+main()
