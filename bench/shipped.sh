@@ -20,16 +20,16 @@ for file in $PLAIN plain_text fast fast_text table $CASES $FUZZ figures; do
     # shellcheck disable=SC2086
     "$tools/bin/clang" --target=$target -nostdinc $headers -std=c11 -O2 -DTHIRD=recharge -DTHIRD_TEXT=recharge -c $file.c -o $made/$file.o
 done
-program() { # PROGRAM NAME..: links the program of its own files
+linked() { # PROGRAM NAME..: the program of these files and the implementations
     program=$1
     shift
     # shellcheck disable=SC2046,SC2086
     "$own/bin/rattle-link" --target $target --toolchain "$tools" -o $made/"$program" \
         $(printf "$made/%s.o " "$@" $PLAIN plain_text fast fast_text table) $archive 2>$made/said || { cat $made/said >&2; exit 1; }
 }
-program figures figures
+linked figures figures
 # shellcheck disable=SC2086
-program fuzz $FUZZ $CASES
+linked fuzz $FUZZ $CASES
 
 emulated() { # PROGRAM ARGUMENT..
     program=$1
