@@ -1,4 +1,4 @@
-/* Seeded random cases for fuzz.c: grids, states, days and texts, mostly valid to the last
+/* Seeded random cases for fuzz: grids, states, days and texts, mostly valid to the last
  * number, and damage done to them of which the refusal is known beforehand. */
 #ifndef CASES_H
 #define CASES_H
@@ -43,13 +43,13 @@ struct day_case {
 enum { E_CODE = 0, E_WATER = 1, E_CURVE = 2, E_RECHARGE = 6, E_GROWING = 10, E_DORMANT = 11,
        E_ROOTS = 12 };
 
-/* The random numbers: the same seed gives the same case. */
+/* The random numbers: the same seed gives the same case (cases_random.c). */
 void start_random(uint64_t seed);
 uint64_t below(uint64_t n);                      /* 0 to n - 1 */
 bool chance(unsigned percent);
 uint64_t edgy(uint64_t lowest, uint64_t highest); /* often at or near an end */
 
-/* Facts of a valid grid, found apart from the implementations. */
+/* Facts of a valid grid, found apart from the implementations (cases_grid.c). */
 const uint32_t *case_entry(const struct grid_case *g, uint32_t cell);
 bool case_is_water(const struct grid_case *g, uint32_t cell);
 uint32_t case_capacity(const struct grid_case *g, uint32_t cell);
@@ -57,7 +57,7 @@ uint32_t case_capacity(const struct grid_case *g, uint32_t cell);
 enum { CASE_LEAVES = -1, CASE_STAYS = -2 };
 int32_t case_next(const struct grid_case *g, uint32_t cell);
 
-/* Valid cases. */
+/* Valid cases (cases_grid.c, cases_day.c). */
 void make_grid(struct grid_case *g);
 void make_state(const struct grid_case *g, struct state_case *s);
 void make_day(const struct grid_case *g, const struct state_case *s, struct day_case *d);
@@ -68,11 +68,11 @@ void make_day(const struct grid_case *g, const struct state_case *s, struct day_
 void make_dry(struct grid_case *g, struct state_case *s, struct day_case *d);
 
 /* Damage, or something just short of it, to valid cases. Each returns what the check (or the
- * day) must then return: 0, a refusal, or UNSURE. */
+ * day) must then return: 0, a refusal, or UNSURE (cases_damage_grid.c, cases_damage_call.c). */
 uint64_t damage_grid(struct grid_case *g);
 uint64_t damage_call(const struct grid_case *g, struct state_case *s, struct day_case *d);
 
-/* A text for the program: nearly valid or damaged. Returns its length. */
+/* A text for the program: nearly valid or damaged (cases_text.c). Returns its length. */
 size_t make_text(unsigned char *bytes);
 
 #endif

@@ -14,6 +14,7 @@
 set -eu
 cd "$(dirname "$0")"
 mkdir -p build
+. ./files.sh
 
 CC=${CC:-cc}
 WARN="-std=c11 -Wall -Wextra -Wconversion -Wshadow"
@@ -31,7 +32,7 @@ OBJECTS=${THIRD_OBJECTS:-}
 $CC $WARN -O2 make_retention.c -o build/make_retention
 build/make_retention | cmp - retention.h
 
-for file in plain plain_text cases fuzz figures; do
+for file in $PLAIN plain_text $CASES $FUZZ figures; do
     $CC $WARN -O2 -c $file.c -o build/$file.o
 done
 for file in fast fast_text; do
@@ -40,12 +41,17 @@ done
 # shellcheck disable=SC2086
 $CC $WARN -O2 $DEFINE -c table.c -o build/table.o
 
-LIBRARY="build/plain.o build/fast.o build/plain_text.o build/fast_text.o build/table.o $OBJECTS"
+objects() { # NAME..
+    printf 'build/%s.o ' "$@"
+}
 # shellcheck disable=SC2086
-$CC build/fuzz.o build/cases.o $LIBRARY -o build/fuzz
+LIBRARY="$(objects $PLAIN plain_text fast fast_text table) $OBJECTS"
+# shellcheck disable=SC2046,SC2086
+$CC $(objects $FUZZ $CASES) $LIBRARY -o build/fuzz
 # shellcheck disable=SC2086
 $CC build/figures.o $LIBRARY -o build/figures
-$CC $WARN -O2 plain_balance.c build/plain.o build/plain_text.o -o build/plain_balance
+# shellcheck disable=SC2046,SC2086
+$CC $WARN -O2 plain_balance.c $(objects $PLAIN plain_text) -o build/plain_balance
 
 # The figures and the worked example, the latter through the program as well.
 build/figures > build/figures.out || { grep -v '^ok' build/figures.out; exit 1; }
@@ -63,8 +69,9 @@ build/plain_balance < build/example.txt | cmp - ../crates/example/stdout
 
 # The random cases under the checkers of memory and of undefined behaviour, fewer of them. A third
 # implementation is left out of it.
-$CC $WARN -O1 -g -fsanitize=address,undefined -fno-sanitize-recover=all fuzz.c cases.c table.c \
-    plain.c plain_text.c fast.c fast_text.c -o build/fuzz_checked
+# shellcheck disable=SC2046,SC2086
+$CC $WARN -O1 -g -fsanitize=address,undefined -fno-sanitize-recover=all \
+    $(printf '%s.c ' $FUZZ $CASES $PLAIN plain_text fast fast_text table) -o build/fuzz_checked
 build/fuzz_checked 2000 2000 900000001 > build/checked.out || { cat build/checked.out; exit 1; }
 tail -n 1 build/checked.out
 

@@ -1,6 +1,6 @@
 /* Document 01's worked example and its "Figures to check against".
  *
- * Every figure is checked of plain.c's single rules, and again of every implementation in the
+ * Every figure is checked of the plain C's single rules, and again of every implementation in the
  * table through whole days of a one-cell grid. Prints each figure; fails if any differs. */
 #include "plain.h"
 #include "table.h"
@@ -21,7 +21,7 @@ static void figure(const char *who, const char *what, int64_t found, int64_t wan
     printf("\n");
 }
 
-/* ---------------------------------------------------------------- plain.c's single rules */
+/* ---------------------------------------------------------------- the plain C's single rules */
 
 static void rules(void)
 {

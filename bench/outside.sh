@@ -9,9 +9,11 @@ cd "$(dirname "$0")/.."
 mode=${1:-check}
 made=bench/build
 mkdir -p $made
+. bench/files.sh
 CC=${CC:-cc}
 
-$CC -std=c11 -Wall -Wextra -Wconversion -Wshadow -O2 bench/outside.c bench/plain.c -o $made/outside
+# shellcheck disable=SC2046,SC2086
+$CC -std=c11 -Wall -Wextra -Wconversion -Wshadow -O2 $(printf 'bench/%s.c ' outside $PLAIN) -o $made/outside
 $made/outside > $made/figures.stdout
 [ "$mode" != write ] || cp $made/figures.stdout crates/figures/stdout
 cmp $made/figures.stdout crates/figures/stdout

@@ -1,4 +1,4 @@
-/* The single rules of plain.c, for programs that check figures against them.
+/* The single rules of the plain C (plain_rules.c), for programs that check figures against them.
  * All of them expect arguments within the paper's limits. */
 #ifndef PLAIN_H
 #define PLAIN_H

@@ -9,20 +9,27 @@ set -eu
 cd "$(dirname "$0")"
 archive=../target/staticlib/libclib.a made=build/x86-64
 mkdir -p $made
+. ./files.sh
 kit=${RATTLE_HOME:-$(cd "$(dirname "$(readlink -f "$(command -v rt)")")/.." && pwd -P)}
 own=$kit/on/$(uname -m)
 tools=$own/toolchain
 target=x86_64-unknown-linux-gnu
 headers=$(LC_ALL=C ${CC:-cc} -E -v -x c /dev/null 2>&1 >/dev/null | sed -n '/^#include </,/^End/s/^ /-isystem /p')
 
-for file in plain plain_text fast fast_text table cases fuzz figures; do
+for file in $PLAIN plain_text fast fast_text table $CASES $FUZZ figures; do
     # shellcheck disable=SC2086
     "$tools/bin/clang" --target=$target -nostdinc $headers -std=c11 -O2 -DTHIRD=recharge -DTHIRD_TEXT=recharge -c $file.c -o $made/$file.o
 done
-for program in figures fuzz; do
-    "$own/bin/rattle-link" --target $target --toolchain "$tools" -o $made/$program $made/$program.o $made/cases.o $made/table.o \
-        $made/plain.o $made/plain_text.o $made/fast.o $made/fast_text.o $archive 2>$made/said || { cat $made/said >&2; exit 1; }
-done
+linked() { # PROGRAM NAME..: the program of these files and the implementations
+    program=$1
+    shift
+    # shellcheck disable=SC2046,SC2086
+    "$own/bin/rattle-link" --target $target --toolchain "$tools" -o $made/"$program" \
+        $(printf "$made/%s.o " "$@" $PLAIN plain_text fast fast_text table) $archive 2>$made/said || { cat $made/said >&2; exit 1; }
+}
+linked figures figures
+# shellcheck disable=SC2086
+linked fuzz $FUZZ $CASES
 
 emulated() { # PROGRAM ARGUMENT..
     program=$1

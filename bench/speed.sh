@@ -7,6 +7,7 @@
 set -eu
 cd "$(dirname "$0")"
 mkdir -p build
+. ./files.sh
 CC=${CC:-cc}
 TEXT=
 if grep -q 'fn recharge_text(' ../crates/clib/src/*.rt; then TEXT=-DTHIRD_TEXT=recharge; fi
@@ -14,8 +15,8 @@ if grep -q 'fn recharge_text(' ../crates/clib/src/*.rt; then TEXT=-DTHIRD_TEXT=r
 for file in fast fast_text; do
     $CC -std=c11 -O3 -c $file.c -o build/$file.o
 done
-# shellcheck disable=SC2086
-$CC -std=gnu11 -Wall -Wextra -Wconversion -Wshadow -O2 -DTHIRD=recharge $TEXT speed.c build/fast.o build/fast_text.o \
+# shellcheck disable=SC2046,SC2086
+$CC -std=gnu11 -Wall -Wextra -Wconversion -Wshadow -O2 -DTHIRD=recharge $TEXT $(printf '%s.c ' $SPEED) build/fast.o build/fast_text.o \
     build/libclib.a -o build/speed
 uname -m
 sed -n 's/^model name[^:]*: //p' /proc/cpuinfo | sed 1q

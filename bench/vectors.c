@@ -61,6 +61,14 @@ void put_cover(int code, int water, int curve, int most, int growing, int dorman
         curve, most, most, most, most, growing, dormant, root, root, root, root);
 }
 
+void put_three_covers(void)
+{
+    put("3\n");
+    put_cover(1, 0, 100, 100000, 0, 0, 0);
+    put_cover(2, 0, 70, 6000, 500, 100, 200);
+    put_cover(3, 1, 100, 0, 0, 0, 0);
+}
+
 /* ---------------------------------------------------------------- one vector */
 
 /* Where the last line of the output starts; every output ends in one line feed. */

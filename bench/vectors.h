@@ -12,10 +12,14 @@ void pad_to(size_t length); /* with blanks */
 /* A cover entry with one figure for all four groups. */
 void put_cover(int code, int water, int curve, int most, int growing, int dormant, int root);
 
+/* Three covers: 1 passes on all that falls on it and holds nothing, 2 is a meadow, 3 is a lake. */
+void put_three_covers(void);
+
 /* Ends the text: works out its output, which must end in the line `ends` (NULL: any), and
  * writes the vector. */
 void vector(const char *name, const char *ends, const char *reason);
 
+/* The cases of vectors_form.c, vectors_limits.c, vectors_grid.c and vectors_weather.c. */
 void form_cases(void);    /* characters, numbers, length, cut-off ends: refusal 11 */
 void limit_cases(void);   /* each field just inside and just outside: 1, 3, 4, 6, 7, 8 */
 void grid_cases(void);    /* flow over small and largest grids, rings: 5 */

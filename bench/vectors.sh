@@ -6,6 +6,7 @@
 set -eu
 cd "$(dirname "$0")/.."
 mkdir -p bench/build
+. bench/files.sh
 
 CC=${CC:-cc}
 WARN="-std=c11 -Wall -Wextra -Wconversion -Wshadow"
@@ -22,9 +23,9 @@ keep() {
 }
 mode=${1:-check}
 
-# shellcheck disable=SC2086
-(cd bench && $CC $WARN -O2 vectors.c vectors_text.c vectors_water.c cases.c plain.c plain_text.c -o build/vectors &&
-    $CC $WARN -O2 plain_balance.c plain.c plain_text.c -o build/plain_balance)
+# shellcheck disable=SC2046,SC2086
+(cd bench && $CC $WARN -O2 $(printf '%s.c ' $VECTORS $CASES $PLAIN plain_text) -o build/vectors &&
+    $CC $WARN -O2 $(printf '%s.c ' plain_balance $PLAIN plain_text) -o build/plain_balance)
 
 examples/year/make.sh > $made/year.txt
 keep $made/year.txt examples/year/year.txt

@@ -12,6 +12,7 @@ pub mod CurveNumberLaws
 pub mod CellDayLaws
 pub mod SetupLaws
 pub mod DayLaws
+pub mod AccountLaws
 pub mod RunLaws
 pub mod StarredFigures
 pub mod EdgeFigures

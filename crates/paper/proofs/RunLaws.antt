@@ -21,7 +21,8 @@ use Rattle.paper.specs.Day.{own, passed, inflow, figures, isGone, Result
 use Rattle.paper.specs.Run.{Standing, start, afterDay, oneDay, days, Accepted, stored, Wetter, NoSmaller, Demand3}
 use Rattle.paper.proofs.CellDayLaws.{raining, Rises, passed-rises, own-rises, cell-rises, day-intercepted}
 use Rattle.paper.proofs.FlowLaws.{arriving-rises}
-use Rattle.paper.proofs.DayLaws.{SoundDay, sound-day, verdict-is, accepted-is, small, account, stored-next}
+use Rattle.paper.proofs.DayLaws.{SoundDay, sound-day, verdict-is, accepted-is, small}
+use Rattle.paper.proofs.AccountLaws.{account, stored-next}
 
 -- two states under one day's rules, the second with more gross precipitation or as much
 module _ (s : Setup) (a b : State) (t : Today) (g h : ℕ) (more : g ≤ h)

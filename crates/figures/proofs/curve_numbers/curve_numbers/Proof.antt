@@ -1,9 +1,9 @@
--- `curve_numbers` is safe and ends: the curve numbers that are left fall.
+-- `curve_numbers::curve_numbers` is safe and ends: the curve numbers that are left fall.
 use Prim.Native.Nat.{_-_, _≤_}
 use native.Mathlib.Omega.{arith}
 use borrow.Author.Needs.{needs}
-use Rattle.figures.proofs.curve_numbers.Statement.{statement}
-use Rattle.figures.proofs.curve_numbers.Tie as tie
+use Rattle.figures.proofs.curve_numbers.curve_numbers.Statement.{statement}
+use Rattle.figures.proofs.curve_numbers.curve_numbers.Tie as tie
 
 abbrev Inv-loop : tie.InvT-loop
 Inv-loop n₀ n = n ≤ 101

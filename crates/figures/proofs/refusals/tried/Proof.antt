@@ -1,9 +1,9 @@
--- `lent` is safe: each part lies within its array.
+-- `refusals::tried` is safe: each part lies within its array.
 use mathlib.Core.Path.{sym}
 use lib.Seq.{length-take-le}
 use borrow.Author.Needs.{needs}
-use Rattle.figures.proofs.lent.Statement.{statement}
-use Rattle.figures.proofs.lent.Tie as tie
+use Rattle.figures.proofs.refusals.tried.Statement.{statement}
+use Rattle.figures.proofs.refusals.tried.Tie as tie
 
 slice-aggregate-day : tie.Need-slice-aggregate-day
 slice-aggregate-day c = search needs
@@ -65,8 +65,8 @@ told-requires c κs = search needs
 returns : tie.Need-returns
 returns c = search needs
 
-pub lent-spec : {M : Type 1} → statement M
-lent-spec =
+pub tried-spec : {M : Type 1} → statement M
+tried-spec =
     tie.close
     (tie.spec
     slice-aggregate-day

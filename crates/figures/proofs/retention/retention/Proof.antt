@@ -1,9 +1,9 @@
--- `retention` is safe and ends: the capacities that are left fall.
+-- `retention::retention` is safe and ends: the capacities that are left fall.
 use Prim.Native.Nat.{_-_, _≤_}
 use native.Mathlib.Omega.{arith}
 use borrow.Author.Needs.{needs}
-use Rattle.figures.proofs.retention.Statement.{statement}
-use Rattle.figures.proofs.retention.Tie as tie
+use Rattle.figures.proofs.retention.retention.Statement.{statement}
+use Rattle.figures.proofs.retention.retention.Tie as tie
 
 abbrev Inv-loop : tie.InvT-loop
 Inv-loop tenths₀ tenths = tenths ≤ 173

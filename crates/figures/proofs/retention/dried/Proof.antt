@@ -1,9 +1,9 @@
--- `dried` is safe and ends: the days that are left fall.
+-- `retention::dried` is safe and ends: the days that are left fall.
 use Prim.Native.Nat.{_-_, _≤_}
 use native.Mathlib.Omega.{arith}
 use borrow.Author.Needs.{needs}
-use Rattle.figures.proofs.dried.Statement.{statement}
-use Rattle.figures.proofs.dried.Tie as tie
+use Rattle.figures.proofs.retention.dried.Statement.{statement}
+use Rattle.figures.proofs.retention.dried.Tie as tie
 
 abbrev Inv-loop : tie.InvT-loop
 Inv-loop tenths days soil left₀ day₀ left day = (tenths ≤ 172) × (day ≤ days)

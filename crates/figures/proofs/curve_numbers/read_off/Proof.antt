@@ -1,8 +1,8 @@
--- `read_off` is safe and ends: c is a curve number from 5 on.
+-- `curve_numbers::read_off` is safe and ends: c is a curve number from 5 on.
 use Prim.Native.Nat.{_-_, _≤_}
 use native.Mathlib.Omega.{arith}
-use Rattle.figures.proofs.read_off.Statement.{statement}
-use Rattle.figures.proofs.read_off.Tie as tie
+use Rattle.figures.proofs.curve_numbers.read_off.Statement.{statement}
+use Rattle.figures.proofs.curve_numbers.read_off.Tie as tie
 
 abbrev Inv-loop : tie.InvT-loop
 Inv-loop outflow c₀ c = (5 ≤ c) × (c ≤ 101)

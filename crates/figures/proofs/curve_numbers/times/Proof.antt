@@ -1,9 +1,9 @@
--- `times` does not wrap: the product of the bounds is far below 2^64.
+-- `curve_numbers::times` does not wrap: the product of the bounds is far below 2^64.
 use mathlib.Core.Path.{refl}
 use native.Mathlib.Nat.{mul-le-mul}
 use native.Mathlib.Omega.{arith}
-use Rattle.figures.proofs.times.Statement.{statement}
-use Rattle.figures.proofs.times.Tie as tie
+use Rattle.figures.proofs.curve_numbers.times.Statement.{statement}
+use Rattle.figures.proofs.curve_numbers.times.Tie as tie
 
 mul-result : tie.Need-mul-result
 mul-result c = omega (arith, mul-le-mul (c .pre .0) (c .pre .1))

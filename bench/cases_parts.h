@@ -1,0 +1,38 @@
+/* What the makers of cases share among themselves. */
+#ifndef CASES_PARTS_H
+#define CASES_PARTS_H
+
+#include "cases.h"
+
+#define COUNT(array) (sizeof(array) / sizeof(array)[0])
+#define ONE_OF(array) ((array)[below(COUNT(array))])
+
+static inline uint64_t refusal(uint64_t number, uint64_t place)
+{
+    return number << 32 | place;
+}
+
+/* More random numbers; both ends are among them. */
+uint64_t random_bits(void);
+uint64_t between(uint64_t lowest, uint64_t highest);
+int64_t between_signed(int64_t lowest, int64_t highest);
+uint32_t edgy32(uint32_t lowest, uint32_t highest);
+
+/* The eight directions as steps, apart from how the implementations have them. */
+struct step {
+    uint32_t number;
+    int right, down;
+};
+extern const struct step compass[8];
+
+/* A number that is a closed depression. */
+uint32_t closed_number(void);
+
+/* A length that is not the cell count, within the room. */
+size_t wrong_length(uint32_t cells);
+
+/* Lays a ring: two neighbours, or the rim of a rectangle, either way round. With one cell of
+ * it open water it is none. */
+uint64_t damage_ring(struct grid_case *g);
+
+#endif

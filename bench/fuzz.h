@@ -1,0 +1,83 @@
+/* What the parts of fuzz share: the counts, what a call may write, the calls by all implementations. */
+#ifndef FUZZ_H
+#define FUZZ_H
+
+#include "cases.h"
+#include "table.h"
+
+enum { MOST_IMPLEMENTATIONS = 8, REFUSALS = 12, GUARD = 1 };
+
+/* ---------------------------------------------------------------- what happened: fuzz_counts.c */
+
+struct tally {
+    uint64_t check[REFUSALS], fresh[REFUSALS], day[REFUSALS], text[REFUSALS];
+    uint64_t cell_days, pairs, pair_days, wetter_figures, text_days;
+    uint32_t most_outflow;
+    uint64_t foretold;
+};
+extern struct tally tally;
+
+/* Names the case that runs now: "case" or "text", and its seed. */
+void set_current(const char *kind, uint64_t seed);
+
+/* Prints the difference with the case's seed and ends the program with 1. */
+__attribute__((format(printf, 1, 2), noreturn)) void fail(const char *format, ...);
+
+void count_refusal(uint64_t *counts, uint64_t returned);
+
+/* The counts of a whole run, in print. */
+void report(uint64_t cases, uint64_t text_cases, uint64_t seed, double case_time, double text_time);
+
+/* Ends the program with 1 where a call reached one of the refusals 1 to `last` too seldom. */
+void reached_often(const char *call, const uint64_t *counts, int last, uint64_t cases);
+
+/* ---------------------------------------------------------------- what a call may write, and the calls: fuzz_calls.c */
+
+/* Everything lent to a call for writing, one an implementation. Each array ends in numbers that
+ * no call may touch. */
+struct world {
+    uint32_t slice[CASE_SLICES][CASE_ROOM]; /* soil, snow, and the five results */
+    uint32_t memory[BALANCE_MEMORY + GUARD], last_serial[1 + GUARD];
+    uint64_t totals[BALANCE_TOTALS + GUARD];
+};
+
+extern const char *const slice_names[CASE_SLICES];
+enum { SOIL, SNOW, INTERCEPTED, OUTFLOW, EVAPOTRANSPIRED, RECHARGED, REJECTED };
+
+extern struct world worlds[MOST_IMPLEMENTATIONS], before;
+
+/* How far the slices are looked at: a little past their ends. */
+uint32_t reach_of(const struct grid_case *g);
+
+void copy_world(struct world *to, const struct world *from, uint32_t reach);
+
+/* Each calls all implementations, holds them to each other and to the foretold refusal, and returns
+ * what they returned. fresh and day leave what came back in worlds[0], and day what was given in
+ * `before`. */
+uint64_t all_check(const struct grid_case *g, uint64_t foretold);
+uint64_t all_fresh(const struct grid_case *g, const struct state_case *s, uint64_t foretold);
+uint64_t all_day(const struct grid_case *g, const struct state_case *s, const struct day_case *d,
+                 uint64_t foretold);
+
+/* ---------------------------------------------------------------- accepted days: fuzz_account.c */
+
+/* Holds an accepted day, in worlds[0], against the account: of each cell, and of the totals. */
+void check_account(const struct grid_case *g, const struct day_case *d);
+
+/* Takes the state over that came back in worlds[0]. */
+void take_state(const struct grid_case *g, struct state_case *s);
+
+/* ---------------------------------------------------------------- pairs of runs: fuzz_pairs.c */
+
+/* Demand 3: of two runs of the same setup and days, the second with at least as much soil and
+ * snow in every cell, the second has no figure that is smaller, and the extra at the start is
+ * the extra evapotranspired, recharged, rejected, gone and still stored. */
+void run_pair(const struct grid_case *g, struct state_case *less, unsigned wetter);
+
+/* ---------------------------------------------------------------- texts: fuzz_text.c */
+
+void run_text(uint64_t seed);
+void show_text(void); /* the output of the last one */
+void write_vectors(const char *dir, uint64_t count, uint64_t seed);
+
+#endif

@@ -1,0 +1,86 @@
+/* What happened: the counts, and how a difference is told. */
+#include "fuzz.h"
+
+#include <inttypes.h>
+#include <stdarg.h>
+#include <stdio.h>
+#include <stdlib.h>
+
+struct tally tally;
+
+/* How many different places each refusal had: bit sets. */
+static uint8_t places[REFUSALS][BALANCE_MAX_CELLS + 1];
+
+static const char *current_kind;
+static uint64_t current_seed;
+
+void set_current(const char *kind, uint64_t seed)
+{
+    current_kind = kind;
+    current_seed = seed;
+}
+
+void fail(const char *format, ...)
+{
+    va_list arguments;
+
+    printf("DIFFERENCE, seed %" PRIu64 " (fuzz %s %" PRIu64 "): ", current_seed, current_kind,
+           current_seed);
+    va_start(arguments, format);
+    vprintf(format, arguments);
+    va_end(arguments);
+    printf("\n");
+    exit(1);
+}
+
+void count_refusal(uint64_t *counts, uint64_t returned)
+{
+    uint64_t number = returned >> 32, place = returned & UINT32_MAX;
+
+    if (number >= REFUSALS || place > BALANCE_MAX_CELLS)
+        fail("a refusal that does not exist: %" PRIu64 " at %" PRIu64, number, place);
+    counts[number]++;
+    places[number][place] = 1;
+}
+
+void report(uint64_t cases, uint64_t text_cases, uint64_t seed, double case_time, double text_time)
+{
+    printf("%" PRIu64 " cases from seed %" PRIu64 " in %.1f s, implementations:", cases, seed,
+           case_time);
+    for (size_t x = 0; x < implementations_count; x++)
+        printf(" %s", implementations[x].name);
+    printf("\n%" PRIu64 " texts in %.1f s, text functions:", text_cases, text_time);
+    for (size_t x = 0; x < texts_count; x++)
+        printf(" %s", texts[x].name);
+    printf("\n\n%-8s %10s %10s %10s %10s %10s\n", "refusal", "check", "fresh", "day", "text",
+           "places");
+    for (int i = 0; i < REFUSALS; i++) {
+        uint64_t different = 0;
+        for (int k = 0; k <= BALANCE_MAX_CELLS; k++)
+            different += places[i][k];
+        printf("%-8d %10" PRIu64 " %10" PRIu64 " %10" PRIu64 " %10" PRIu64 " %10" PRIu64 "%s\n",
+               i, tally.check[i], tally.fresh[i], tally.day[i], tally.text[i], different,
+               i == 0 ? "  (0: accepted; places are the library's)" : "");
+    }
+    printf("\nreturns that were foretold and so: %" PRIu64 "\n", tally.foretold);
+    printf("cells of accepted days held against the account: %" PRIu64 "\n", tally.cell_days);
+    printf("largest outflow seen: %" PRIu32 "\n", tally.most_outflow);
+    printf("pairs of runs: %" PRIu64 ", of %" PRIu64 " days, with %" PRIu64 " larger figures\n",
+           tally.pairs, tally.pair_days, tally.wetter_figures);
+    printf("day lines of texts: %" PRIu64 "\n", tally.text_days);
+    printf("no difference\n");
+}
+
+/* A comparison says little of a refusal that it hardly reached. A text reaches neither 2 nor 9: it lends every slice at its
+ * length, and starts fresh. */
+void reached_often(const char *call, const uint64_t *counts, int last, uint64_t cases)
+{
+    for (int i = 1; i <= last && cases >= 1000; i++) {
+        if (counts == tally.text && (i == 2 || i == 9))
+            continue;
+        if (counts[i] * 250 < cases) {
+            printf("TOO FEW: %s reached refusal %d only %" PRIu64 " times\n", call, i, counts[i]);
+            exit(1);
+        }
+    }
+}

@@ -1,0 +1,48 @@
+/* Pairs of runs, of which one has more water: demand 3. */
+#include "fuzz.h"
+
+#include <inttypes.h>
+
+void run_pair(const struct grid_case *g, struct state_case *less, unsigned wetter)
+{
+    static struct state_case more;
+    static struct world first;
+    struct day_case day;
+    int64_t extra = 0, came_out = 0;
+
+    more = *less;
+    for (uint32_t i = 0; i < g->cells; i++) {
+        if (case_is_water(g, i) || !chance(wetter))
+            continue;
+        more.soil[i] = (uint32_t)edgy(less->soil[i], case_capacity(g, i));
+        more.snow[i] = (uint32_t)edgy(less->snow[i],
+                                      less->snow[i] > 5000000 ? less->snow[i] : 5000000);
+        extra += (int64_t)more.soil[i] - less->soil[i] + more.snow[i] - less->snow[i];
+    }
+    tally.pairs++;
+    for (uint64_t days = 1 + below(5); days > 0; days--) {
+        make_day(g, less, &day);
+        all_day(g, less, &day, 0);
+        take_state(g, less);
+        copy_world(&first, &worlds[0], reach_of(g));
+        all_day(g, &more, &day, 0);
+        take_state(g, &more);
+        tally.pair_days++;
+
+        for (int k = 0; k < CASE_SLICES; k++)
+            for (uint32_t i = 0; i < g->cells; i++) {
+                if (worlds[0].slice[k][i] < first.slice[k][i])
+                    fail("demand 3: %s of cell %" PRIu32 " is %" PRIu32 ", with more water %"
+                         PRIu32, slice_names[k], i, first.slice[k][i], worlds[0].slice[k][i]);
+                if (k == INTERCEPTED && worlds[0].slice[k][i] != first.slice[k][i])
+                    fail("demand 3: the interception of cell %" PRIu32 " differs", i);
+                tally.wetter_figures += worlds[0].slice[k][i] > first.slice[k][i];
+            }
+        for (int i = 2; i <= 5; i++)
+            came_out += (int64_t)(worlds[0].totals[i] - first.totals[i]);
+        int64_t still_there = (int64_t)(worlds[0].totals[6] - first.totals[6]);
+        if (extra != came_out + still_there)
+            fail("demand 3: the extra water is off: %" PRId64 " is not %" PRId64 " + %" PRId64,
+                 extra, came_out, still_there);
+    }
+}
