@@ -13,36 +13,22 @@ use Rattle.paper.specs.State.{State}
 use Rattle.records.specs.Grids.{setupAs}
 use Rattle.records.specs.declared.grids.Grid.{Grid}
 use Rattle.records.specs.declared.grids.Season.{Season}
-use Rattle.text.specs.Laying.{Spaced, Laid}
+use Rattle.text.specs.Laying.{Laid}
 use Rattle.text.specs.Program.{field, coverCount, cellCount, cellsFrom, daysFrom, dayCount, dayAt, setup, refusal, noResults, daysText, freshText, startText, runText}
 use Rattle.text.specs.Run.{mostText, Coded, Complete, Lent, DaysReady}
-use Rattle.text.proofs.OneDayLaws.{zeros, part-length}
+use Rattle.text.proofs.OneDayLaws.{zeros}
 
 pub five : (ns : List ℕ) → daysFrom ns ≤ length ns → 5 ≤ length ns
 unfolding daysFrom cellsFrom
 five ns h = omega arith
 
--- a part of an array of zeros for each slice
+-- the stores before the first day: a part of an array of zeros each
 module _ (ns : List ℕ) (cells : ℕ) (c : Complete ns cells) where
   pub fits : cells ≤ 4096
   fits = omega (arith, c .counted, c .cells)
 
   abbrev part : List ℕ
   part = take cells (replicate 4096 0)
-
-  part-cells : length part ≡ cellCount ns
-  part-cells = sym (part-length cells 4096 fits) ∙ c .counted
-
-  pub spaced : (table : ℕ) → table ≡ 16 * coverCount ns → Spaced ns (take table (replicate 1024 0)) part part part part
-  spaced table e =
-      record {
-        numbers = c .numbers;
-        table = sym (part-length table 1024 (omega (arith, e, c .covers))) ∙ e;
-        directions = part-cells;
-        codes = part-cells;
-        groups = part-cells;
-        waters = part-cells;
-      }
 
   pub lent : (output : List ℕ) → Coded ns → mostText ≤ length output → Lent ns part part output
   lent output coded room =
