@@ -11,7 +11,6 @@ ghost use Rattle.records.specs.Answers.{totalsAs};
 ghost use Rattle.text.specs.Program.{daysFrom, dayCount, dayAt, noResults, daysText};
 ghost use Rattle.text.specs.Run.{Coded, DaysReady, Tells, mostText};
 ghost use Rattle.text.specs.Writing.{Wrote};
-ghost use Rattle.text.specs.Lines.{dayLine};
 use crate::fields::tenths;
 use crate::refusals::refusal;
 use crate::writing::ended;
@@ -23,7 +22,6 @@ use records::Grid;
 use records::Past;
 use records::Season;
 use records::TenthF;
-use records::Totals;
 use records::Verdict;
 use records::wide;
 
@@ -50,31 +48,6 @@ fn day_at(numbers: &[u32], from: usize, k: usize) -> DayRecord
     }
 }
 
-fn day_line(output: &mut [u8], at: usize, serial: u32, totals: Totals) -> usize
-    requires { ⌜ at + 168 ≤ length (now output) ⌝ }
-    ensures { λ r. ⌜ Wrote 168 at (dayLine serial (totalsAs totals)) (now (output .entry)) (now (output .exit)) r ⌝ }
-{
-    let gross = totals.gross.0;
-    let intercepted = totals.intercepted.0;
-    let evapotranspired = totals.evapotranspired.0;
-    let recharged = totals.recharged.0;
-    let rejected = totals.rejected.0;
-    let gone = totals.gone.0;
-    let stored = totals.stored.0;
-    line(
-        output,
-        at,
-        wide(serial),
-        gross,
-        intercepted,
-        evapotranspired,
-        recharged,
-        rejected,
-        gone,
-        stored,
-    )
-}
-
 // A day's line, or its refusal.
 fn tell(output: &mut [u8], at: usize, serial: u32, answer: Answer) -> Told
     requires { ⌜ at + 168 ≤ length (now output) ⌝ }
@@ -83,7 +56,7 @@ fn tell(output: &mut [u8], at: usize, serial: u32, answer: Answer) -> Told
     let verdict = answer.verdict;
     let totals = answer.totals;
     match verdict {
-        Verdict::Accepted => Told::More(day_line(output, at, serial, totals)),
+        Verdict::Accepted => Told::More(line(output, at, serial, totals)),
         Verdict::Refused(why) => Told::Last(refusal(output, at, why)),
     }
 }
