@@ -61,6 +61,42 @@ returns-2 c = let days = c .before .before .before .before .before .before in
     (omega arith)
     (days .days .ensures)
 
+add-from : tie.Need-add-from
+add-from c = search needs
+
+mul-from : tie.Need-mul-from
+mul-from c = search needs
+
+add-from-2 : tie.Need-add-from-2
+add-from-2 c = search needs
+
+fresh-requires : tie.Need-fresh-requires
+fresh-requires c κs = search needs
+
+enum-known-verdict : tie.Need-enum-known-verdict
+enum-known-verdict c = search needs
+
+enum-told : tie.Need-enum-told
+enum-told c = search needs
+
+same-length : tie.Need-same-length
+same-length c = search needs
+
+same-length-2 : tie.Need-same-length-2
+same-length-2 c = search needs
+
+same-length-3 : tie.Need-same-length-3
+same-length-3 c = search needs
+
+same-length-4 : tie.Need-same-length-4
+same-length-4 c = search needs
+
+same-length-5 : tie.Need-same-length-5
+same-length-5 c = search needs
+
+same-length-6 : tie.Need-same-length-6
+same-length-6 c = search needs
+
 pub begun-spec : {M : Type 1} → statement M
 begun-spec =
     tie.close
@@ -69,19 +105,19 @@ begun-spec =
     shared-slice-read-height
     shared-slice-read-first
     shared-slice-read-last
-    (λ c. search needs)
-    (λ c. search needs)
-    (λ c. search needs)
-    (λ c κs. search needs)
-    (λ c. search needs)
+    add-from
+    mul-from
+    add-from-2
+    fresh-requires
+    enum-known-verdict
     refusal-requires
-    (λ c. search needs)
+    enum-told
     days-requires
-    (λ c. search needs)
-    (λ c. search needs)
-    (λ c. search needs)
+    same-length
+    same-length-2
+    same-length-3
     returns
-    (λ c. search needs)
-    (λ c. search needs)
-    (λ c. search needs)
+    same-length-4
+    same-length-5
+    same-length-6
     returns-2)

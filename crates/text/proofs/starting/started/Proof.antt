@@ -40,6 +40,12 @@ room place = cell-room _ _ _ (start place .pre .0) (counted place)
 shared-slice-read-place : tie.Need-shared-slice-read-place
 shared-slice-read-place c = omega (arith, five _ (c .before .before .before .pre .0 .numbers))
 
+mul-count : tie.Need-mul-count
+mul-count c = omega (arith, covers-fit c)
+
+add-from : tie.Need-add-from
+add-from c = omega (arith, covers-fit c)
+
 table-requires : tie.Need-table-requires
 table-requires c κs = (omega (arith, room c), covers-fit c)
 
@@ -89,33 +95,63 @@ begun-requires c κs = let last = c .before .before .before .before .before .bef
       lent _ _ (p .0) _ (p .1) (p .2),
     )
 
+place-requires : tie.Need-place-requires
+place-requires c κs = search needs
+
+array-share-prefix-covers : tie.Need-array-share-prefix-covers
+array-share-prefix-covers c = search needs
+
+array-share-prefix-direction : tie.Need-array-share-prefix-direction
+array-share-prefix-direction c = search needs
+
+array-share-prefix-cover : tie.Need-array-share-prefix-cover
+array-share-prefix-cover c = search needs
+
+array-share-prefix-group : tie.Need-array-share-prefix-group
+array-share-prefix-group c = search needs
+
+array-share-prefix-water : tie.Need-array-share-prefix-water
+array-share-prefix-water c = search needs
+
+array-borrow-prefix-soil : tie.Need-array-borrow-prefix-soil
+array-borrow-prefix-soil c = search needs
+
+array-borrow-prefix-snow : tie.Need-array-borrow-prefix-snow
+array-borrow-prefix-snow c = search needs
+
+same-length : tie.Need-same-length
+same-length c = search needs
+
+returns : tie.Need-returns
+returns c = search needs
+
 pub started-spec : {M : Type 1} → statement M
 started-spec =
     tie.close
     (tie.spec
     shared-slice-read-place
-    (λ c κs. search needs)
-    (λ c. omega (arith, covers-fit c))
-    (λ c. omega (arith, covers-fit c))
+    place-requires
+    mul-count
+    add-from
     table-requires
     column-requires
     column-requires-2
     groups-requires
     column-requires-3
-    (λ c. search needs)
+    array-share-prefix-covers
     slice-aggregate-begun
-    (λ c. search needs)
+    array-share-prefix-direction
     slice-aggregate-begun-2
-    (λ c. search needs)
+    array-share-prefix-cover
     slice-aggregate-begun-3
-    (λ c. search needs)
+    array-share-prefix-group
     slice-aggregate-begun-4
-    (λ c. search needs)
+    array-share-prefix-water
     slice-aggregate-begun-5
-    (λ c. search needs)
+    array-borrow-prefix-soil
     slice-aggregate-begun-6
-    (λ c. search needs)
+    array-borrow-prefix-snow
     slice-aggregate-begun-7
     begun-requires
-    (λ c. search needs)
-    (λ c. search needs))
+    same-length
+    returns)

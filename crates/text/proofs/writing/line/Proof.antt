@@ -5,6 +5,27 @@ use Rattle.text.proofs.writing.line.Tie as tie
 use Rattle.text.specs.Lines.{dayLine}
 use Rattle.text.proofs.WritingLaws.{row-pair, row-more, row-last}
 
+wide-requires : tie.Need-wide-requires
+wide-requires c κs = search needs
+
+pair-requires : tie.Need-pair-requires
+pair-requires c κs = search needs
+
+pair-requires-2 : tie.Need-pair-requires-2
+pair-requires-2 c κs = search needs
+
+pair-requires-3 : tie.Need-pair-requires-3
+pair-requires-3 c κs = search needs
+
+item-requires : tie.Need-item-requires
+item-requires c κs = search needs
+
+item-requires-2 : tie.Need-item-requires-2
+item-requires-2 c κs = search needs
+
+same-length : tie.Need-same-length
+same-length c = search needs
+
 returns : tie.Need-returns
 unfolding dayLine
 returns c = let fifth = c .before .before in
@@ -21,11 +42,11 @@ pub line-spec : {M : Type 1} → statement M
 line-spec =
     tie.close
     (tie.spec
-    (λ c κs. search needs)
-    (λ c κs. search needs)
-    (λ c κs. search needs)
-    (λ c κs. search needs)
-    (λ c κs. search needs)
-    (λ c κs. search needs)
-    (λ c. search needs)
+    wide-requires
+    pair-requires
+    pair-requires-2
+    pair-requires-3
+    item-requires
+    item-requires-2
+    same-length
     returns)
