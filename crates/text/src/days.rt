@@ -11,6 +11,7 @@ ghost use Rattle.records.specs.Answers.{totalsAs};
 ghost use Rattle.text.specs.Program.{daysFrom, dayCount, dayAt, noResults, daysText};
 ghost use Rattle.text.specs.Run.{Coded, DaysReady, Tells, mostText};
 ghost use Rattle.text.specs.Writing.{Wrote};
+use crate::fields::DAY_NUMBERS;
 use crate::fields::tenths;
 use crate::refusals::refusal;
 use crate::writing::ended;
@@ -19,6 +20,7 @@ use records::Answer;
 use records::DayRecord;
 use records::Depth;
 use records::Grid;
+use records::MOST_CELLS;
 use records::Past;
 use records::Season;
 use records::TenthF;
@@ -36,7 +38,7 @@ fn day_at(numbers: &[u32], from: usize, k: usize) -> DayRecord
     requires { ⌜ Coded (now numbers) × (from ≡ daysFrom (now numbers)) × (from + 7 * k + 7 ≤ length (now numbers)) ⌝ }
     ensures { λ r. ⌜ dayAs r ≡ dayAt (now (numbers .entry)) k ⌝ }
 {
-    let at = from + 7 * k;
+    let at = from + DAY_NUMBERS * k;
     DayRecord {
         serial: numbers[at],
         day_of_year: numbers[at + 1],
@@ -82,12 +84,12 @@ pub(crate) fn days(
     ensures { λ r. ⌜ Wrote mostText 0 (daysText (setupAs grid season (now (covers .entry)) (now (direction .entry)) (now (cover .entry)) (now (group .entry)) (now (water .entry))) (stateAs (now (soil .entry)) (now (snow .entry)) past) (noResults (length (now (direction .entry)))) 0 (made (dayCount (now (numbers .entry))) (dayAt (now (numbers .entry))))) (now (output .entry)) (now (output .exit)) r ⌝ }
 {
     let n = direction.len();
-    let count = (numbers.len() - from) / 7;
-    let mut intercepted = [0u32; 4096];
-    let mut outflow = [0u32; 4096];
-    let mut evapotranspired = [0u32; 4096];
-    let mut recharged = [0u32; 4096];
-    let mut rejected = [0u32; 4096];
+    let count = (numbers.len() - from) / DAY_NUMBERS;
+    let mut intercepted = [0u32; MOST_CELLS];
+    let mut outflow = [0u32; MOST_CELLS];
+    let mut evapotranspired = [0u32; MOST_CELLS];
+    let mut recharged = [0u32; MOST_CELLS];
+    let mut rejected = [0u32; MOST_CELLS];
     let mut past = past;
     let mut at = 0;
     let mut done: u64 = 0;

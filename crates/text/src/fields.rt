@@ -14,6 +14,9 @@ pub(crate) const FRONT_NUMBERS: usize = 5;
 // The numbers of a cell: direction, cover, group and water.
 pub(crate) const CELL_NUMBERS: usize = 4;
 
+// The numbers of a day: serial, day of the year, gross precipitation, three temperatures and potential evapotranspiration.
+pub(crate) const DAY_NUMBERS: usize = 7;
+
 // The longest cover table: 64 entries of 16 numbers.
 const MOST_TABLE: usize = 1024;
 
