@@ -2,14 +2,23 @@
 use mathlib.Core.List.{List}
 use mathlib.Core.Path.{_≡_}
 use Prim.Native.Nat.{ℕ, _≤_}
-use lib.ListN.{length, take}
+use lib.ListN.{length, getD, take}
 use Rattle.theory.specs.Lists.{made}
+use Rattle.records.specs.declared.grids.Grid.{Grid}
+use Rattle.records.specs.declared.grids.Season.{Season}
 use Rattle.text.specs.Program.{setup}
 
 -- the first n places of an array are a rule's
 pub record Front (n : ℕ) (rule : ℕ → ℕ) (l : List ℕ) : Type 0 where
   pub room : n ≤ length l
   pub filled : take n l ≡ made n rule
+
+-- the first four numbers
+abbrev pub gridIn : List ℕ → Grid
+gridIn ns = record { width = getD ns 0 0; height = getD ns 1 0 }
+
+abbrev pub seasonIn : List ℕ → Season
+seasonIn ns = record { first = getD ns 2 0; last = getD ns 3 0 }
 
 pub record Laid (ns covers direction cover group water : List ℕ) : Type 0 where
   pub table : covers ≡ setup ns .covers

@@ -1,7 +1,8 @@
 // A run from the input's numbers: the setup in slices of its own lengths, the fresh state, then the days.
+ghost use mathlib.Core.Path.{_≡_};
 ghost use Prim.Native.Nat.{_≤_};
 ghost use lib.ListN.{length};
-ghost use Rattle.text.specs.Laying.{Laid};
+ghost use Rattle.text.specs.Laying.{gridIn, seasonIn, Laid};
 ghost use Rattle.text.specs.Program.{runText};
 ghost use Rattle.text.specs.Run.{Coded, Complete, Lent, mostText};
 ghost use Rattle.text.specs.Writing.{Wrote};
@@ -19,6 +20,24 @@ use records::Season;
 use records::Verdict;
 use records::place;
 
+fn grid_in(numbers: &[u32]) -> Grid
+    requires { ⌜ 5 ≤ length (now numbers) ⌝ }
+    ensures { λ r. ⌜ r ≡ gridIn (now (numbers .entry)) ⌝ }
+{
+    let width = numbers[0];
+    let height = numbers[1];
+    Grid { width, height }
+}
+
+fn season_in(numbers: &[u32]) -> Season
+    requires { ⌜ 5 ≤ length (now numbers) ⌝ }
+    ensures { λ r. ⌜ r ≡ seasonIn (now (numbers .entry)) ⌝ }
+{
+    let first = numbers[2];
+    let last = numbers[3];
+    Season { first, last }
+}
+
 // The fresh state, and the days from it on; or its refusal.
 fn begun(
     numbers: &[u32],
@@ -34,12 +53,8 @@ fn begun(
     requires { ⌜ Laid (now numbers) (now covers) (now direction) (now cover) (now group) (now water) × Lent (now numbers) (now soil) (now snow) (now output) ⌝ }
     ensures { λ r. ⌜ Wrote mostText 0 (runText (now (numbers .entry))) (now (output .entry)) (now (output .exit)) r ⌝ }
 {
-    let width = numbers[0];
-    let height = numbers[1];
-    let first = numbers[2];
-    let last = numbers[3];
-    let grid = Grid { width, height };
-    let season = Season { first, last };
+    let grid = grid_in(numbers);
+    let season = season_in(numbers);
     let from = FRONT_NUMBERS + covers.len() + CELL_NUMBERS * direction.len();
     let start = recharge::fresh(
         grid,
