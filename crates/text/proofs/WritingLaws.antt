@@ -81,7 +81,8 @@ unfolding row
 row-pair m n k ks w v = rw (← pair-append) (wrote-then w v)
   where
     pair-append : (digits m ++ 32 ∷ (digits n ++ 32 ∷ [])) ++ row k ks ≡ digits m ++ 32 ∷ (digits n ++ 32 ∷ row k ks)
-    pair-append = append-assoc (digits m) (32 ∷ (digits n ++ 32 ∷ [])) (row k ks) ∙ ap (λ (l : List ℕ). digits m ++ 32 ∷ l) (append-snoc (digits n) 32 (row k ks))
+    pair-append = append-assoc (digits m) (32 ∷ (digits n ++ 32 ∷ [])) (row k ks)
+        ∙ ap (λ (l : List ℕ). digits m ++ 32 ∷ l) (append-snoc (digits n) 32 (row k ks))
 
 pub row-last : {a at r : ℕ} {l l′ : List ℕ} (n : ℕ) → Wrote a at (digits n ++ 10 ∷ []) l l′ r → Wrote a at (row n []) l l′ r
 unfolding row

@@ -39,7 +39,8 @@ returns c = let refusal = c .before .before in
     let at = season (fresh lent) in
     let p = start at .pre in
     whole-text
-    (start-refused _ _ _ _ _ _ _ _ _ (p .0) (p .1) _ _ (at .before .grid-in .ensures) (at .season-in .ensures) _ _ _ (fresh lent .fresh .ensures) (ap verdictAs (told .verdict .given .1)))
+    (start-refused _ _ _ _ _ _ _ _ _ (p .0) (p .1) _ _ (at .before .grid-in .ensures) (at .season-in .ensures) _ _ _
+    (fresh lent .fresh .ensures) (ap verdictAs (told .verdict .given .1)))
     (omega arith)
     (refusal .refusal .ensures)
 
@@ -50,7 +51,8 @@ returns-2 c = let days = c .before .before .before .before .before .before in
     let at = season (fresh lent) in
     let p = start at .pre in
     whole-text
-    (start-runs _ _ _ _ _ _ _ _ _ (p .0) (p .1) _ _ (at .before .grid-in .ensures) (at .season-in .ensures) _ _ (fresh lent .fresh .ensures) (ap verdictAs (told .enum-told .given .1)))
+    (start-runs _ _ _ _ _ _ _ _ _ (p .0) (p .1) _ _ (at .before .grid-in .ensures) (at .season-in .ensures) _ _
+    (fresh lent .fresh .ensures) (ap verdictAs (told .enum-told .given .1)))
     (omega arith)
     (days .days .ensures)
 
