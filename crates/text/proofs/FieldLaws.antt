@@ -1,11 +1,13 @@
--- A lent slice filled by a rule from its front on: one store more takes one place more of the rule, until the slice is the rule's.
+-- An array filled by a rule from its front on: one store more takes one place more of the rule.
 use mathlib.Core.Path.{_≡_, refl, sym, _∙_}
 use mathlib.Core.List.{List}
-use Prim.Native.Nat.{ℕ, _+_, _<_}
+use Prim.Native.Nat.{ℕ, _+_, _≤_, _<_}
 use native.Mathlib.Numerals.{add-one}
-use lib.ListN.{length, set, length-set}
+use lib.ListN.{length, set, drop, length-set}
+use lib.Seq.{take-at}
 use Rattle.theory.specs.Lists.{made, madeOver}
-use Rattle.theory.proofs.ListLaws.{over-none, over-more, over-all}
+use Rattle.theory.proofs.ListLaws.{made-length, over-none, over-more}
+use Rattle.text.specs.Laying.{Front}
 
 pub record Filled (f : ℕ → ℕ) (i : ℕ) (before now : List ℕ) : Type 0 where
   pub rule : now ≡ madeOver i f before
@@ -23,5 +25,11 @@ filled-more f i before now v h e s =
       long = length-set now i v ∙ s .long;
     }
 
-pub filled-all : (f : ℕ → ℕ) (i : ℕ) (before now : List ℕ) → i ≡ length before → Filled f i before now → now ≡ made (length before) f
-filled-all f i before now e s = s .rule ∙ rw e (over-all (length before) f before refl)
+pub filled-front :
+    (f : ℕ → ℕ) (n i : ℕ) (before now : List ℕ) → i ≡ n → n ≤ length before → Filled f i before now → Front n f now
+unfolding madeOver
+filled-front f n i before now e h s =
+    record {
+      room = rw (s .long) h;
+      filled = rw (s .rule, e) (take-at (made n f) (drop n before) n (made-length n f));
+    }

@@ -1,4 +1,5 @@
 pub mod WordLaws
+pub mod SizeLaws
 pub mod ReaderLaws
 pub mod DigitLaws
 pub mod WritingLaws

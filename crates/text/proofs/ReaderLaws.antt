@@ -1,45 +1,28 @@
 -- The reader's way through a text: what is found in all of it is what is stored and what is left to find, and each byte keeps it so.
 -- A number and the blank after it take two bytes, so the numbers of 65,536 bytes have room.
 use mathlib.Core.Path.{_≡_, refl, sym, ap, _∙_}
-use mathlib.Core.Bool.{Bool, true, false, cond}
+use mathlib.Core.Bool.{Bool, true, false}
 use mathlib.Core.List.{List, [], _∷_, _++_}
-use Prim.Native.Nat.{ℕ, zero, suc, _+_, _*_, _-_, _≤_, _<_, zero-le}
+use Prim.Native.Nat.{ℕ, zero, suc, _+_, _*_, _≤_, _<_, zero-le}
 use native.Mathlib.Nat.{le-of-suc-le-suc, not-suc-le-zero, add-zero, zero-add}
 use native.Mathlib.Numerals.{add-one}
 use native.Mathlib.Omega.{arith}
-use lib.Dec.{eqb, ltb}
 use lib.IntN.{ℤ}
 use lib.ListN.{length, getD, take, drop, set}
 use lib.Seq.{sets, sets-eq, take-at, drop-nil}
-use borrow.Author.Tests.{ltb-true}
 use Rattle.theory.proofs.Cases.{byCases}
-use Rattle.text.specs.Words.{isBlank, isDigit, reading, negatives, codes}
-use Rattle.text.specs.Reader.{
-  withDigit,
-  withMinus,
-  withByte,
-  endOf,
-  Found,
-  foundAs,
-  after,
-  found,
-  Sized,
-  weight,
-  ending,
-  storing,
-  Took,
-  formAs,
-  Read,
-}
+use Rattle.text.specs.Words.{isBlank, reading, codes}
+use Rattle.text.specs.Reader.{withByte, endOf, Found, foundAs, after, found, Sized, weight, ending, storing, Took, formAs, Read}
 use Rattle.text.specs.declared.reading.Begun.{Begun}
-use Rattle.text.specs.declared.reading.Begun.the-variants.{Nothing, Minus, Zero, Plain, Below, Spoilt}
+use Rattle.text.specs.declared.reading.Begun.the-variants.{Nothing}
 use Rattle.text.specs.declared.reading.Ended.{Ended}
 use Rattle.text.specs.declared.reading.Ended.the-variants as ended
 use Rattle.text.specs.declared.reading.Taken.{Taken}
 use Rattle.text.specs.declared.reading.Taken.the-variants.{Going, Stopped}
 use Rattle.text.specs.declared.reading.Form.{Form}
 use Rattle.text.specs.declared.reading.Form.the-variants.{Whole, Broken}
-use Rattle.text.proofs.WordLaws.{digit-high, found-reading}
+use Rattle.text.proofs.WordLaws.{found-reading}
+use Rattle.text.proofs.SizeLaws.{weight-one, number-weighs, nothing-sized, byte-sized, found-small}
 
 -- the text with a blank after it, byte by byte
 abbrev pub ended-text : List ℕ → List ℕ
@@ -57,70 +40,10 @@ ended-end [] (suc i) h = drop-nil i
 ended-end (b ∷ l) zero h = absurd (not-suc-le-zero h)
 ended-end (b ∷ l) (suc i) h = ended-end l i (le-of-suc-le-suc h)
 
-pub any-default : (l : List ℕ) (i a b : ℕ) → i < length l → getD l i a ≡ getD l i b
-any-default [] i a b h = absurd (not-suc-le-zero h)
-any-default (x ∷ l) zero a b h = refl
-any-default (x ∷ l) (suc i) a b h = any-default l i a b (le-of-suc-le-suc h)
-
 pub past-default : (l : List ℕ) (i a : ℕ) → length l ≤ i → a ≡ getD l i a
 past-default [] i a h = refl
 past-default (x ∷ l) zero a h = absurd (not-suc-le-zero h)
 past-default (x ∷ l) (suc i) a h = past-default l i a (le-of-suc-le-suc h)
-
--- what the numbers of a word begun have room for
-pub weight-one : (t : Begun) → weight t ≤ 1
-unfolding weight
-weight-one Nothing = zero-le
-weight-one Minus = omega arith
-weight-one Zero = omega arith
-weight-one (Plain m) = omega arith
-weight-one (Below m) = omega arith
-weight-one Spoilt = omega arith
-
-pub number-weighs : (t : Begun) (n : ℕ) → endOf t ≡ ended.Number n → weight t ≡ 1
-unfolding weight endOf
-number-weighs Nothing n e = absurd (let z : _≡_ {A = ℕ} 0 1 = cc in omega arith)
-number-weighs Minus n e = refl
-number-weighs Zero n e = refl
-number-weighs (Plain m) n e = refl
-number-weighs (Below m) n e = refl
-number-weighs Spoilt n e = refl
-
-grown-sized : (m d : ℕ) → d < 10 → (K : ℕ → Begun) → ((k : ℕ) → k < negatives → Sized (K k)) → Sized (cond (ltb m 100000000) (K (10 * m + d)) Spoilt)
-unfolding Sized
-grown-sized m d h K sized = byCases (ltb m 100000000) (λ e. rw e (sized (10 * m + d) (omega (arith, ltb-true m 100000000 e)))) (λ e. rw e tt)
-
-digit-sized : (t : Begun) (d : ℕ) → d < 10 → Sized (withDigit t d)
-unfolding Sized withDigit
-digit-sized Nothing d h = byCases (eqb d 0) (λ e. rw e tt) (λ e. rw e (omega arith))
-digit-sized Minus d h = byCases (eqb d 0) (λ e. rw e tt) (λ e. rw e (omega arith))
-digit-sized Zero d h = tt
-digit-sized (Plain m) d h = grown-sized m d h Plain (λ k k<. k<)
-digit-sized (Below m) d h = grown-sized m d h Below (λ k k<. k<)
-digit-sized Spoilt d h = tt
-
-nothing-sized : Sized Nothing
-unfolding Sized
-nothing-sized = tt
-
-spoilt-sized : Sized Spoilt
-unfolding Sized
-spoilt-sized = tt
-
-minus-sized : (t : Begun) → Sized (withMinus t)
-unfolding Sized withMinus
-minus-sized Nothing = tt
-minus-sized Minus = tt
-minus-sized Zero = tt
-minus-sized (Plain m) = tt
-minus-sized (Below m) = tt
-minus-sized Spoilt = tt
-
-byte-sized : (t : Begun) (b : ℕ) → Sized (withByte t b)
-unfolding withByte
-byte-sized t b =
-    byCases (eqb b 45) (λ e. rw e (minus-sized t))
-    (λ e. byCases (isDigit b) (λ d. rw (e, d) (digit-sized t (b - 48) (omega (arith, digit-high b d)))) (λ d. rw (e, d) spoilt-sized))
 
 -- all is what is stored in front and what is left
 pub record Left (before : List ℕ) (all : Found) (numbers : List ℕ) (count : ℕ) (left : Found) : Type 0 where
@@ -288,27 +211,6 @@ front input before numbers r long read =
     (take-at (codes zs) (drop (0 + length (codes zs)) before) (length zs) same)
 
 -- every code is below two thousand million
-small-after :
-    (t : Begun) (f : Found) → Sized t → ((k : ℕ) → getD (f .codes) k 0 < 2000000000) → (k : ℕ)
-    → getD (after (endOf t) f .codes) k 0 < 2000000000
-unfolding Sized endOf after
-small-after Nothing f s small k = small k
-small-after Minus f s small k = omega arith
-small-after Zero f s small zero = omega arith
-small-after Zero f s small (suc k) = small k
-small-after (Plain m) f s small zero = omega arith
-small-after (Plain m) f s small (suc k) = small k
-small-after (Below m) f s small zero = omega arith
-small-after (Below m) f s small (suc k) = small k
-small-after Spoilt f s small k = omega arith
-
-found-small : (bs : List ℕ) (t : Begun) → Sized t → (k : ℕ) → getD (found t bs .codes) k 0 < 2000000000
-unfolding found
-found-small [] t s k = omega arith
-found-small (b ∷ bs) t s k =
-    byCases (isBlank b) (λ e. rw e (small-after t (found Nothing bs) s (found-small bs Nothing nothing-sized) k))
-    (λ e. rw e (found-small bs (withByte t b) (byte-sized t b) k))
-
 pub codes-small : (input : List ℕ) (k : ℕ) → getD (codes (reading input .numbers)) k 0 < 2000000000
 unfolding foundAs
 codes-small input k =

@@ -13,36 +13,22 @@ use Rattle.paper.specs.State.{State}
 use Rattle.records.specs.Grids.{setupAs}
 use Rattle.records.specs.declared.grids.Grid.{Grid}
 use Rattle.records.specs.declared.grids.Season.{Season}
-use Rattle.text.specs.Laying.{Spaced, Laid}
-use Rattle.text.specs.Program.{field, coverCount, cellCount, cellsFrom, daysFrom, dayCount, dayAt, setup, refusal, noResults, daysText, freshText, startText, runText}
+use Rattle.text.specs.Laying.{gridIn, seasonIn, Laid}
+use Rattle.text.specs.Program.{coverCount, cellCount, cellsFrom, daysFrom, dayCount, dayAt, setup, refusal, noResults, daysText, freshText, startText, runText}
 use Rattle.text.specs.Run.{mostText, Coded, Complete, Lent, DaysReady}
-use Rattle.text.proofs.OneDayLaws.{zeros, part-length}
+use Rattle.text.proofs.OneDayLaws.{zeros}
 
 pub five : (ns : List ℕ) → daysFrom ns ≤ length ns → 5 ≤ length ns
 unfolding daysFrom cellsFrom
 five ns h = omega arith
 
--- a part of an array of zeros for each slice
+-- the stores before the first day: a part of an array of zeros each
 module _ (ns : List ℕ) (cells : ℕ) (c : Complete ns cells) where
   pub fits : cells ≤ 4096
   fits = omega (arith, c .counted, c .cells)
 
   abbrev part : List ℕ
   part = take cells (replicate 4096 0)
-
-  part-cells : length part ≡ cellCount ns
-  part-cells = sym (part-length cells 4096 fits) ∙ c .counted
-
-  pub spaced : (table : ℕ) → table ≡ 16 * coverCount ns → Spaced ns (take table (replicate 1024 0)) part part part part
-  spaced table e =
-      record {
-        numbers = c .numbers;
-        table = sym (part-length table 1024 (omega (arith, e, c .covers))) ∙ e;
-        directions = part-cells;
-        codes = part-cells;
-        groups = part-cells;
-        waters = part-cells;
-      }
 
   pub lent : (output : List ℕ) → Coded ns → mostText ≤ length output → Lent ns part part output
   lent output coded room =
@@ -60,15 +46,6 @@ module _
     (laid : Laid ns covers direction cover group water)
     (lent : Lent ns soil snow output)
   where
-    abbrev grid : Grid
-    grid = record { width = field ns 0; height = field ns 1 }
-
-    abbrev season : Season
-    season = record { first = field ns 2; last = field ns 3 }
-
-    abbrev here : paper.Setup
-    here = setupAs grid season covers direction cover group water
-
     table-length : length covers ≡ 16 * coverCount ns
     unfolding setup
     table-length = ap length (laid .table) ∙ made-length _ _
@@ -88,38 +65,42 @@ module _
           room = lent .room;
         }
 
-    same-setup : here ≡ setup ns
-    unfolding setup
-    same-setup = λ k. record {
-      grid = setup ns .grid;
-      season = setup ns .season;
-      covers = laid .table k;
-      direction = laid .directions k;
-      cover = laid .codes k;
-      group = laid .groups k;
-      water = laid .waters k;
-    }
+    module _ (grid : Grid) (season : Season) (gridded : grid ≡ gridIn ns) (seasoned : season ≡ seasonIn ns) where
+      abbrev here : paper.Setup
+      here = setupAs grid season covers direction cover group water
 
-    abbrev first : Fresh
-    first = freshOf (setup ns) (replicate (cellCount ns) 0) (replicate (cellCount ns) 0)
+      same-setup : here ≡ setup ns
+      unfolding setup
+      same-setup = λ k. record {
+        grid = record { width = gridded k .width; height = gridded k .height };
+        season = record { first = seasoned k .first; last = seasoned k .last };
+        covers = laid .table k;
+        direction = laid .directions k;
+        cover = laid .codes k;
+        group = laid .groups k;
+        water = laid .waters k;
+      }
 
-    module _ (st : State) where
-      -- what the library says of the slices is what the paper says of the setup
-      of-setup :
-          (v : Verdict) → record { verdict = v; state = st } ≡ freshOf here soil snow → record { verdict = v; state = st } ≡ first
-      of-setup v q = q ∙ (λ k. freshOf (same-setup k) (lent .soils k) (lent .snows k))
+      abbrev first : Fresh
+      first = freshOf (setup ns) (replicate (cellCount ns) 0) (replicate (cellCount ns) 0)
 
-      pub start-refused :
-          (v : Verdict) (why : Refusal) → record { verdict = v; state = st } ≡ freshOf here soil snow → v ≡ refused why
-          → runText ns ≡ refusal why
-      unfolding runText startText freshText
-      start-refused v why q e =
-          ap (freshText (setup ns) (made (dayCount ns) (dayAt ns)) first) (sym (ap (λ (f : Fresh). f .verdict) (of-setup v q)) ∙ e)
+      module _ (st : State) where
+        -- what the library says of the slices is what the paper says of the setup
+        of-setup :
+            (v : Verdict) → record { verdict = v; state = st } ≡ freshOf here soil snow → record { verdict = v; state = st } ≡ first
+        of-setup v q = q ∙ (λ k. freshOf (same-setup k) (lent .soils k) (lent .snows k))
 
-      pub start-runs :
-          (v : Verdict) → record { verdict = v; state = st } ≡ freshOf here soil snow → v ≡ accepted
-          → runText ns ≡ daysText here st (noResults (length direction)) 0 (made (dayCount ns) (dayAt ns))
-      unfolding runText startText freshText paper.cellsIn cellCount setup
-      start-runs v q e =
-          ap (freshText (setup ns) (made (dayCount ns) (dayAt ns)) first) (sym (ap (λ (f : Fresh). f .verdict) (of-setup v q)) ∙ e)
-          ∙ sym (λ k. daysText (same-setup k) (of-setup v q k .state) (noResults (each k)) 0 (made (dayCount ns) (dayAt ns)))
+        pub start-refused :
+            (v : Verdict) (why : Refusal) → record { verdict = v; state = st } ≡ freshOf here soil snow → v ≡ refused why
+            → runText ns ≡ refusal why
+        unfolding runText startText freshText
+        start-refused v why q e =
+            ap (freshText (setup ns) (made (dayCount ns) (dayAt ns)) first) (sym (ap (λ (f : Fresh). f .verdict) (of-setup v q)) ∙ e)
+
+        pub start-runs :
+            (v : Verdict) → record { verdict = v; state = st } ≡ freshOf here soil snow → v ≡ accepted
+            → runText ns ≡ daysText here st (noResults (length direction)) 0 (made (dayCount ns) (dayAt ns))
+        unfolding runText startText freshText paper.cellsIn cellCount setup
+        start-runs v q e =
+            ap (freshText (setup ns) (made (dayCount ns) (dayAt ns)) first) (sym (ap (λ (f : Fresh). f .verdict) (of-setup v q)) ∙ e)
+            ∙ sym (λ k. daysText (same-setup k) (of-setup v q k .state) (noResults (each k)) 0 (made (dayCount ns) (dayAt ns)))

@@ -1,6 +1,6 @@
 -- Bytes written one after another into a buffer are written together: each law joins what a call wrote to what was written before it.
 use mathlib.Core.Path.{_≡_, refl, sym, ap, _∙_}
-use mathlib.Core.List.{List, [], _∷_, _++_}
+use mathlib.Core.List.{List, [], _∷_, _++_, append-assoc}
 use Prim.Native.Nat.{ℕ, suc, _+_, _/_, _%_, _^_, _≤_, _<_}
 use native.Mathlib.Nat.{add-zero, add-suc, suc-add, le-refl}
 use native.Mathlib.Numerals.{add-one}
@@ -72,6 +72,17 @@ pub row-more :
     → Wrote (a + b) at (row n (k ∷ ks)) l l₂ r
 unfolding row
 row-more n k ks w v = item-then n 32 (row k ks) w v
+
+pub row-pair :
+    {a b at mid r : ℕ} {l l₁ l₂ : List ℕ} (m n k : ℕ) (ks : List ℕ) → Wrote a at (digits m ++ 32 ∷ (digits n ++ 32 ∷ [])) l l₁ mid
+    → Wrote b mid (row k ks) l₁ l₂ r
+    → Wrote (a + b) at (row m (n ∷ k ∷ ks)) l l₂ r
+unfolding row
+row-pair m n k ks w v = rw (← pair-append) (wrote-then w v)
+  where
+    pair-append : (digits m ++ 32 ∷ (digits n ++ 32 ∷ [])) ++ row k ks ≡ digits m ++ 32 ∷ (digits n ++ 32 ∷ row k ks)
+    pair-append = append-assoc (digits m) (32 ∷ (digits n ++ 32 ∷ [])) (row k ks)
+        ∙ ap (λ (l : List ℕ). digits m ++ 32 ∷ l) (append-snoc (digits n) 32 (row k ks))
 
 pub row-last : {a at r : ℕ} {l l′ : List ℕ} (n : ℕ) → Wrote a at (digits n ++ 10 ∷ []) l l′ r → Wrote a at (row n []) l l′ r
 unfolding row

@@ -1,18 +1,24 @@
--- The setup of the input's numbers in lent slices.
+-- The setup of the input's numbers, each list of it at the front of an array.
 use mathlib.Core.List.{List}
 use mathlib.Core.Path.{_≡_}
-use Prim.Native.Nat.{ℕ, _*_, _≤_}
-use lib.ListN.{length}
-use Rattle.text.specs.Program.{coverCount, cellCount, daysFrom, setup}
+use Prim.Native.Nat.{ℕ, _≤_}
+use lib.ListN.{length, getD, take}
+use Rattle.theory.specs.Lists.{made}
+use Rattle.records.specs.declared.grids.Grid.{Grid}
+use Rattle.records.specs.declared.grids.Season.{Season}
+use Rattle.text.specs.Program.{setup}
 
--- no number is missing, and each slice has its length
-pub record Spaced (ns covers direction cover group water : List ℕ) : Type 0 where
-  pub numbers : daysFrom ns ≤ length ns
-  pub table : length covers ≡ 16 * coverCount ns
-  pub directions : length direction ≡ cellCount ns
-  pub codes : length cover ≡ cellCount ns
-  pub groups : length group ≡ cellCount ns
-  pub waters : length water ≡ cellCount ns
+-- the first n places of an array are a rule's
+pub record Front (n : ℕ) (rule : ℕ → ℕ) (l : List ℕ) : Type 0 where
+  pub room : n ≤ length l
+  pub filled : take n l ≡ made n rule
+
+-- the first four numbers
+abbrev pub gridIn : List ℕ → Grid
+gridIn ns = record { width = getD ns 0 0; height = getD ns 1 0 }
+
+abbrev pub seasonIn : List ℕ → Season
+seasonIn ns = record { first = getD ns 2 0; last = getD ns 3 0 }
 
 pub record Laid (ns covers direction cover group water : List ℕ) : Type 0 where
   pub table : covers ≡ setup ns .covers

@@ -20,19 +20,6 @@ unfoldable pub row : ℕ → List ℕ → List ℕ
 row n [] = digits n ++ 10 ∷ []
 row n (m ∷ ms) = digits n ++ 32 ∷ row m ms
 
--- the totals in the paper's order
-abbrev pub totals : ℕ → ℕ → ℕ → ℕ → ℕ → ℕ → ℕ → Totals
-totals gross intercepted evapotranspired recharged rejected gone stored =
-    record {
-      gross = gross;
-      intercepted = intercepted;
-      evapotranspired = evapotranspired;
-      recharged = recharged;
-      rejected = rejected;
-      gone = gone;
-      stored = stored;
-    }
-
 -- a day's line: its serial and the seven totals
 unfoldable pub dayLine : ℕ → Totals → List ℕ
 dayLine serial t =

@@ -11,7 +11,7 @@ ghost use Rattle.records.specs.Answers.{totalsAs};
 ghost use Rattle.text.specs.Program.{daysFrom, dayCount, dayAt, noResults, daysText};
 ghost use Rattle.text.specs.Run.{Coded, DaysReady, Tells, mostText};
 ghost use Rattle.text.specs.Writing.{Wrote};
-ghost use Rattle.text.specs.Lines.{dayLine};
+use crate::fields::DAY_NUMBERS;
 use crate::fields::tenths;
 use crate::refusals::refusal;
 use crate::writing::ended;
@@ -20,10 +20,10 @@ use records::Answer;
 use records::DayRecord;
 use records::Depth;
 use records::Grid;
+use records::MOST_CELLS;
 use records::Past;
 use records::Season;
 use records::TenthF;
-use records::Totals;
 use records::Verdict;
 use records::wide;
 
@@ -38,7 +38,7 @@ fn day_at(numbers: &[u32], from: usize, k: usize) -> DayRecord
     requires { ⌜ Coded (now numbers) × (from ≡ daysFrom (now numbers)) × (from + 7 * k + 7 ≤ length (now numbers)) ⌝ }
     ensures { λ r. ⌜ dayAs r ≡ dayAt (now (numbers .entry)) k ⌝ }
 {
-    let at = from + 7 * k;
+    let at = from + DAY_NUMBERS * k;
     DayRecord {
         serial: numbers[at],
         day_of_year: numbers[at + 1],
@@ -50,31 +50,6 @@ fn day_at(numbers: &[u32], from: usize, k: usize) -> DayRecord
     }
 }
 
-fn day_line(output: &mut [u8], at: usize, serial: u32, totals: Totals) -> usize
-    requires { ⌜ at + 168 ≤ length (now output) ⌝ }
-    ensures { λ r. ⌜ Wrote 168 at (dayLine serial (totalsAs totals)) (now (output .entry)) (now (output .exit)) r ⌝ }
-{
-    let gross = totals.gross.0;
-    let intercepted = totals.intercepted.0;
-    let evapotranspired = totals.evapotranspired.0;
-    let recharged = totals.recharged.0;
-    let rejected = totals.rejected.0;
-    let gone = totals.gone.0;
-    let stored = totals.stored.0;
-    line(
-        output,
-        at,
-        wide(serial),
-        gross,
-        intercepted,
-        evapotranspired,
-        recharged,
-        rejected,
-        gone,
-        stored,
-    )
-}
-
 // A day's line, or its refusal.
 fn tell(output: &mut [u8], at: usize, serial: u32, answer: Answer) -> Told
     requires { ⌜ at + 168 ≤ length (now output) ⌝ }
@@ -83,7 +58,7 @@ fn tell(output: &mut [u8], at: usize, serial: u32, answer: Answer) -> Told
     let verdict = answer.verdict;
     let totals = answer.totals;
     match verdict {
-        Verdict::Accepted => Told::More(day_line(output, at, serial, totals)),
+        Verdict::Accepted => Told::More(line(output, at, serial, totals)),
         Verdict::Refused(why) => Told::Last(refusal(output, at, why)),
     }
 }
@@ -109,12 +84,12 @@ pub(crate) fn days(
     ensures { λ r. ⌜ Wrote mostText 0 (daysText (setupAs grid season (now (covers .entry)) (now (direction .entry)) (now (cover .entry)) (now (group .entry)) (now (water .entry))) (stateAs (now (soil .entry)) (now (snow .entry)) past) (noResults (length (now (direction .entry)))) 0 (made (dayCount (now (numbers .entry))) (dayAt (now (numbers .entry))))) (now (output .entry)) (now (output .exit)) r ⌝ }
 {
     let n = direction.len();
-    let count = (numbers.len() - from) / 7;
-    let mut intercepted = [0u32; 4096];
-    let mut outflow = [0u32; 4096];
-    let mut evapotranspired = [0u32; 4096];
-    let mut recharged = [0u32; 4096];
-    let mut rejected = [0u32; 4096];
+    let count = (numbers.len() - from) / DAY_NUMBERS;
+    let mut intercepted = [0u32; MOST_CELLS];
+    let mut outflow = [0u32; MOST_CELLS];
+    let mut evapotranspired = [0u32; MOST_CELLS];
+    let mut recharged = [0u32; MOST_CELLS];
+    let mut rejected = [0u32; MOST_CELLS];
     let mut past = past;
     let mut at = 0;
     let mut done: u64 = 0;

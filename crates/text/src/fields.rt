@@ -2,36 +2,50 @@
 ghost use mathlib.Core.Path.{_≡_};
 ghost use Prim.Native.Nat.{_+_, _*_, _≤_, _<_};
 ghost use lib.ListN.{length, getD};
-ghost use Rattle.theory.specs.Lists.{made};
 ghost use Rattle.text.specs.Words.{signed};
 ghost use Rattle.text.specs.Program.{groupIn};
-ghost use Rattle.text.specs.Laying.{Spaced, Laid};
+ghost use Rattle.text.specs.Laying.{Front};
 use crate::reading::NEGATIVES;
+use records::MOST_CELLS;
 
-// The cover table: the numbers from a place on.
-pub(crate) fn copy(numbers: &[u32], from: usize, covers: &mut [u32])
-    requires { ⌜ from + length (now covers) ≤ length (now numbers) ⌝ }
-    ensures { λ r. ⌜ now (covers .exit) ≡ made (length (now (covers .entry))) (λ k. getD (now (numbers .entry)) (from + k) 0) ⌝ }
+// The numbers before the cover table: width, height, first, last and the count of covers.
+pub(crate) const FRONT_NUMBERS: usize = 5;
+
+// The numbers of a cell: direction, cover, group and water.
+pub(crate) const CELL_NUMBERS: usize = 4;
+
+// The numbers of a day: serial, day of the year, gross precipitation, three temperatures and potential evapotranspiration.
+pub(crate) const DAY_NUMBERS: usize = 7;
+
+// The longest cover table: 64 entries of 16 numbers.
+const MOST_TABLE: usize = 1024;
+
+// The cover table, which stands after the first five numbers, at the front of an array.
+pub(crate) fn table(numbers: &[u32], count: usize) -> [u32; MOST_TABLE]
+    requires { ⌜ (5 + count ≤ length (now numbers)) × (count ≤ 1024) ⌝ }
+    ensures { λ r. ⌜ Front count (λ k. getD (now (numbers .entry)) (5 + k) 0) r ⌝ }
 {
-    let count = covers.len();
+    let mut covers = [0u32; MOST_TABLE];
     let mut k = 0;
     while k < count {
-        covers[k] = numbers[from + k];
+        covers[k] = numbers[FRONT_NUMBERS + k];
         k += 1;
     }
+    covers
 }
 
-// One of each cell's four numbers: 0 its direction, 1 its cover, 3 its water.
-pub(crate) fn column(numbers: &[u32], from: usize, which: usize, cells: &mut [u32])
-    requires { ⌜ (from + 4 * length (now cells) ≤ length (now numbers)) × (which < 4) ⌝ }
-    ensures { λ r. ⌜ now (cells .exit) ≡ made (length (now (cells .entry))) (λ i. getD (now (numbers .entry)) (from + 4 * i + which) 0) ⌝ }
+// One of each cell's four numbers, at the front of an array: 0 its direction, 1 its cover, 3 its water.
+pub(crate) fn column(numbers: &[u32], from: usize, which: usize, count: usize) -> [u32; MOST_CELLS]
+    requires { ⌜ (from + 4 * count ≤ length (now numbers)) × (which < 4) × (count ≤ 4096) ⌝ }
+    ensures { λ r. ⌜ Front count (λ i. getD (now (numbers .entry)) (from + 4 * i + which) 0) r ⌝ }
 {
-    let count = cells.len();
+    let mut cells = [0u32; MOST_CELLS];
     let mut i = 0;
     while i < count {
-        cells[i] = numbers[from + 4 * i + which];
+        cells[i] = numbers[from + CELL_NUMBERS * i + which];
         i += 1;
     }
+    cells
 }
 
 // A cell's group; 0, which is no group, where its direction is below zero.
@@ -41,16 +55,20 @@ fn group(direction: u32, given: u32) -> u32
     if NEGATIVES < direction { 0 } else { given }
 }
 
-pub(crate) fn groups(numbers: &[u32], from: usize, cells: &mut [u32])
-    requires { ⌜ from + 4 * length (now cells) ≤ length (now numbers) ⌝ }
-    ensures { λ r. ⌜ now (cells .exit) ≡ made (length (now (cells .entry))) (λ i. groupIn (getD (now (numbers .entry)) (from + 4 * i) 0) (getD (now (numbers .entry)) (from + 4 * i + 2) 0)) ⌝ }
+pub(crate) fn groups(numbers: &[u32], from: usize, count: usize) -> [u32; MOST_CELLS]
+    requires { ⌜ (from + 4 * count ≤ length (now numbers)) × (count ≤ 4096) ⌝ }
+    ensures { λ r. ⌜ Front count (λ i. groupIn (getD (now (numbers .entry)) (from + 4 * i) 0) (getD (now (numbers .entry)) (from + 4 * i + 2) 0)) r ⌝ }
 {
-    let count = cells.len();
+    let mut cells = [0u32; MOST_CELLS];
     let mut i = 0;
     while i < count {
-        cells[i] = group(numbers[from + 4 * i], numbers[from + 4 * i + 2]);
+        cells[i] = group(
+            numbers[from + CELL_NUMBERS * i],
+            numbers[from + CELL_NUMBERS * i + 2],
+        );
         i += 1;
     }
+    cells
 }
 
 // A temperature, with its sign back.
@@ -63,24 +81,4 @@ pub(crate) fn tenths(code: u32) -> i32
     } else {
         code as i32
     }
-}
-
-// The cover table and the cells of a setup, each in a slice of its own length.
-pub(crate) fn lay(
-    numbers: &[u32],
-    covers: &mut [u32],
-    direction: &mut [u32],
-    cover: &mut [u32],
-    group: &mut [u32],
-    water: &mut [u32],
-)
-    requires { ⌜ Spaced (now numbers) (now covers) (now direction) (now cover) (now group) (now water) ⌝ }
-    ensures { λ r. ⌜ Laid (now (numbers .entry)) (now (covers .exit)) (now (direction .exit)) (now (cover .exit)) (now (group .exit)) (now (water .exit)) ⌝ }
-{
-    let from = 5 + covers.len();
-    copy(numbers, 5, covers);
-    column(numbers, from, 0, direction);
-    column(numbers, from, 1, cover);
-    groups(numbers, from, group);
-    column(numbers, from, 3, water);
 }

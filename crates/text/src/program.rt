@@ -5,6 +5,7 @@ ghost use Rattle.text.specs.Program.{printed, numbersText};
 ghost use Rattle.text.specs.Run.{Printed, Coded, mostText};
 ghost use Rattle.text.specs.Writing.{Wrote};
 use crate::reading::Form;
+use crate::reading::MOST_NUMBERS;
 use crate::reading::read;
 use crate::screening::Screened;
 use crate::screening::TEXT;
@@ -44,7 +45,7 @@ fn text(input: &[u8], output: &mut [u8]) -> usize
     if MOST_BYTES < input.len() {
         return refused(output, 0, TEXT, 0);
     }
-    let mut numbers = [0u32; 32768];
+    let mut numbers = [0u32; MOST_NUMBERS];
     match read(input, &mut numbers) {
         Form::Whole(count) => screened(&numbers[..count], output),
         Form::Broken(count) => refused(output, 0, TEXT, units(count)),

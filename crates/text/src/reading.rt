@@ -40,6 +40,9 @@ pub(crate) enum Taken {
 // Past this number stand the codes of the numbers below zero.
 pub(crate) const NEGATIVES: u32 = 1000000000;
 
+// A number and the blank after it take two bytes, so 65,536 bytes hold at most so many.
+pub(crate) const MOST_NUMBERS: usize = 32768;
+
 // The least number of nine digits, which takes no tenth.
 const NINE_DIGITS: u32 = 100000000;
 
@@ -143,7 +146,7 @@ fn byte_at(input: &[u8], i: usize) -> u8
 }
 
 // One byte: it goes on with a word, or ends it, and then the word's number is stored.
-fn take(b: u8, begun: Begun, numbers: &mut [u32; 32768], count: usize) -> Taken
+fn take(b: u8, begun: Begun, numbers: &mut [u32; MOST_NUMBERS], count: usize) -> Taken
     requires { ⌜ Sized begun × (count + weight begun ≤ 32768) ⌝ }
     ensures { λ r. ⌜ Took b begun count (now (numbers .entry)) (now (numbers .exit)) r ⌝ }
 {
@@ -160,7 +163,7 @@ fn take(b: u8, begun: Begun, numbers: &mut [u32; 32768], count: usize) -> Taken
     }
 }
 
-pub(crate) fn read(input: &[u8], numbers: &mut [u32; 32768]) -> Form
+pub(crate) fn read(input: &[u8], numbers: &mut [u32; MOST_NUMBERS]) -> Form
     requires { ⌜ length (now input) ≤ 65536 ⌝ }
     ensures { λ r. ⌜ Read (now (input .entry)) (now (numbers .entry)) (now (numbers .exit)) r ⌝ }
 {

@@ -4,6 +4,10 @@ ghost use mathlib.Core.Path.{_≡_};
 ghost use Prim.Native.Nat.{_-_, _*_, _%_};
 ghost use lib.Dec.{leb, eqb};
 ghost use Rattle.text.specs.Program.{screen as screened};
+use crate::fields::CELL_NUMBERS;
+use crate::fields::DAY_NUMBERS;
+use crate::fields::FRONT_NUMBERS;
+use covers::ENTRY_NUMBERS;
 use records::Grid;
 use records::place;
 
@@ -31,7 +35,7 @@ fn complete(count: usize, needed: usize) -> bool
     if count < needed {
         return false;
     }
-    (count - needed) % 7 == 0
+    (count - needed) % DAY_NUMBERS == 0
 }
 
 pub(crate) fn units(count: usize) -> u64
@@ -53,7 +57,7 @@ pub(crate) fn screen(numbers: &[u32]) -> Screened
     if !grid.fits() {
         return Screened::Refused(1, 0);
     }
-    if count < 5 {
+    if count < FRONT_NUMBERS {
         return Screened::Refused(TEXT, units(count));
     }
     let covers = numbers[4];
@@ -61,7 +65,10 @@ pub(crate) fn screen(numbers: &[u32]) -> Screened
         return Screened::Refused(3, 0);
     }
     let cells = grid.cells();
-    if !complete(count, 5 + 16 * place(covers) + 4 * cells) {
+    if !complete(
+        count,
+        FRONT_NUMBERS + ENTRY_NUMBERS * place(covers) + CELL_NUMBERS * cells,
+    ) {
         return Screened::Refused(TEXT, units(count));
     }
     Screened::Ready(cells)

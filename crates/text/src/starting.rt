@@ -1,17 +1,42 @@
 // A run from the input's numbers: the setup in slices of its own lengths, the fresh state, then the days.
+ghost use mathlib.Core.Path.{_≡_};
 ghost use Prim.Native.Nat.{_≤_};
 ghost use lib.ListN.{length};
-ghost use Rattle.text.specs.Laying.{Spaced, Laid};
+ghost use Rattle.text.specs.Laying.{gridIn, seasonIn, Laid};
 ghost use Rattle.text.specs.Program.{runText};
 ghost use Rattle.text.specs.Run.{Coded, Complete, Lent, mostText};
 ghost use Rattle.text.specs.Writing.{Wrote};
 use crate::days::days;
-use crate::fields::lay;
+use crate::fields::CELL_NUMBERS;
+use crate::fields::FRONT_NUMBERS;
+use crate::fields::column;
+use crate::fields::groups;
+use crate::fields::table;
 use crate::refusals::refusal;
+use covers::ENTRY_NUMBERS;
 use records::Grid;
+use records::MOST_CELLS;
 use records::Season;
 use records::Verdict;
 use records::place;
+
+fn grid_in(numbers: &[u32]) -> Grid
+    requires { ⌜ 5 ≤ length (now numbers) ⌝ }
+    ensures { λ r. ⌜ r ≡ gridIn (now (numbers .entry)) ⌝ }
+{
+    let width = numbers[0];
+    let height = numbers[1];
+    Grid { width, height }
+}
+
+fn season_in(numbers: &[u32]) -> Season
+    requires { ⌜ 5 ≤ length (now numbers) ⌝ }
+    ensures { λ r. ⌜ r ≡ seasonIn (now (numbers .entry)) ⌝ }
+{
+    let first = numbers[2];
+    let last = numbers[3];
+    Season { first, last }
+}
 
 // The fresh state, and the days from it on; or its refusal.
 fn begun(
@@ -28,13 +53,9 @@ fn begun(
     requires { ⌜ Laid (now numbers) (now covers) (now direction) (now cover) (now group) (now water) × Lent (now numbers) (now soil) (now snow) (now output) ⌝ }
     ensures { λ r. ⌜ Wrote mostText 0 (runText (now (numbers .entry))) (now (output .entry)) (now (output .exit)) r ⌝ }
 {
-    let width = numbers[0];
-    let height = numbers[1];
-    let first = numbers[2];
-    let last = numbers[3];
-    let grid = Grid { width, height };
-    let season = Season { first, last };
-    let from = 5 + covers.len() + 4 * direction.len();
+    let grid = grid_in(numbers);
+    let season = season_in(numbers);
+    let from = FRONT_NUMBERS + covers.len() + CELL_NUMBERS * direction.len();
     let start = recharge::fresh(
         grid,
         season,
@@ -70,54 +91,27 @@ fn begun(
     }
 }
 
-fn laid_out(
-    numbers: &[u32],
-    covers: &mut [u32],
-    direction: &mut [u32],
-    cover: &mut [u32],
-    group: &mut [u32],
-    water: &mut [u32],
-    soil: &mut [u32],
-    snow: &mut [u32],
-    output: &mut [u8],
-) -> usize
-    requires { ⌜ Spaced (now numbers) (now covers) (now direction) (now cover) (now group) (now water) × Lent (now numbers) (now soil) (now snow) (now output) ⌝ }
-    ensures { λ r. ⌜ Wrote mostText 0 (runText (now (numbers .entry))) (now (output .entry)) (now (output .exit)) r ⌝ }
-{
-    lay(numbers, covers, direction, cover, group, water);
-    begun(
-        numbers,
-        covers,
-        direction,
-        cover,
-        group,
-        water,
-        soil,
-        snow,
-        output,
-    )
-}
-
-// Numbers that are ready for the run: the part of each array that has one entry a cell, and 16 a cover.
+// Numbers that are ready for the run: the setup stands at the fronts of arrays, one entry a cell and 16 a cover.
 pub(crate) fn started(numbers: &[u32], cells: usize, output: &mut [u8]) -> usize
     requires { ⌜ Complete (now numbers) cells × Coded (now numbers) × (mostText ≤ length (now output)) ⌝ }
     ensures { λ r. ⌜ Wrote mostText 0 (runText (now (numbers .entry))) (now (output .entry)) (now (output .exit)) r ⌝ }
 {
-    let table = 16 * place(numbers[4]);
-    let mut covers = [0u32; 1024];
-    let mut direction = [0u32; 4096];
-    let mut cover = [0u32; 4096];
-    let mut group = [0u32; 4096];
-    let mut water = [0u32; 4096];
-    let mut soil = [0u32; 4096];
-    let mut snow = [0u32; 4096];
-    laid_out(
+    let count = ENTRY_NUMBERS * place(numbers[4]);
+    let from = FRONT_NUMBERS + count;
+    let covers = table(numbers, count);
+    let direction = column(numbers, from, 0, cells);
+    let cover = column(numbers, from, 1, cells);
+    let group = groups(numbers, from, cells);
+    let water = column(numbers, from, 3, cells);
+    let mut soil = [0u32; MOST_CELLS];
+    let mut snow = [0u32; MOST_CELLS];
+    begun(
         numbers,
-        &mut covers[..table],
-        &mut direction[..cells],
-        &mut cover[..cells],
-        &mut group[..cells],
-        &mut water[..cells],
+        &covers[..count],
+        &direction[..cells],
+        &cover[..cells],
+        &group[..cells],
+        &water[..cells],
         &mut soil[..cells],
         &mut snow[..cells],
         output,

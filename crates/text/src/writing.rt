@@ -3,8 +3,11 @@ ghost use mathlib.Core.List.{[], _∷_, _++_};
 ghost use mathlib.Core.Path.{_≡_};
 ghost use Prim.Native.Nat.{_+_, _≤_};
 ghost use lib.ListN.{length};
-ghost use Rattle.text.specs.Lines.{digits, totals, dayLine, endLine, refusedLine};
+ghost use Rattle.records.specs.Answers.{totalsAs};
+ghost use Rattle.text.specs.Lines.{digits, dayLine, endLine, refusedLine};
 ghost use Rattle.text.specs.Writing.{Wrote};
+use records::Totals;
+use records::wide;
 
 fn digit(x: u64) -> u8
     requires { ⌜ x ≤ 9 ⌝ }
@@ -49,30 +52,32 @@ fn word(buffer: &mut [u8], at: usize, bytes: &[u8]) -> usize
     at + i
 }
 
-// A day's line: its serial and the seven totals.
-pub(crate) fn line(
-    buffer: &mut [u8],
-    at: usize,
-    serial: u64,
-    gross: u64,
-    intercepted: u64,
-    evapotranspired: u64,
-    recharged: u64,
-    rejected: u64,
-    gone: u64,
-    stored: u64,
-) -> usize
-    requires { ⌜ at + 168 ≤ length (now buffer) ⌝ }
-    ensures { λ r. ⌜ Wrote 168 at (dayLine serial (totals gross intercepted evapotranspired recharged rejected gone stored)) (now (buffer .entry)) (now (buffer .exit)) r ⌝ }
+// Two numbers, each with a space after it.
+fn pair(buffer: &mut [u8], at: usize, m: u64, n: u64) -> usize
+    requires { ⌜ at + 42 ≤ length (now buffer) ⌝ }
+    ensures { λ r. ⌜ Wrote 42 at (digits m ++ 32 ∷ (digits n ++ 32 ∷ [])) (now (buffer .entry)) (now (buffer .exit)) r ⌝ }
 {
-    let a = item(buffer, at, serial, b' ');
-    let b = item(buffer, a, gross, b' ');
-    let c = item(buffer, b, intercepted, b' ');
-    let d = item(buffer, c, evapotranspired, b' ');
-    let e = item(buffer, d, recharged, b' ');
-    let f = item(buffer, e, rejected, b' ');
-    let g = item(buffer, f, gone, b' ');
-    item(buffer, g, stored, b'\n')
+    let next = item(buffer, at, m, b' ');
+    item(buffer, next, n, b' ')
+}
+
+// A day's line: its serial and the seven totals.
+pub(crate) fn line(buffer: &mut [u8], at: usize, serial: u32, totals: Totals) -> usize
+    requires { ⌜ at + 168 ≤ length (now buffer) ⌝ }
+    ensures { λ r. ⌜ Wrote 168 at (dayLine serial (totalsAs totals)) (now (buffer .entry)) (now (buffer .exit)) r ⌝ }
+{
+    let gross = totals.gross.0;
+    let intercepted = totals.intercepted.0;
+    let evapotranspired = totals.evapotranspired.0;
+    let recharged = totals.recharged.0;
+    let rejected = totals.rejected.0;
+    let gone = totals.gone.0;
+    let stored = totals.stored.0;
+    let a = pair(buffer, at, wide(serial), gross);
+    let b = pair(buffer, a, intercepted, evapotranspired);
+    let c = pair(buffer, b, recharged, rejected);
+    let d = item(buffer, c, gone, b' ');
+    item(buffer, d, stored, b'\n')
 }
 
 // The last line of a run whose days were all accepted.

@@ -8,7 +8,7 @@ use Rattle.text.proofs.days.tell.Tie as tie
 
 returns : tie.Need-returns
 returns c = let line = c .before .before in
-    tells-line _ _ _ _ _ _ _ (ap verdictAs (line .before .before .enum-told .given .1)) (line .day-line .ensures)
+    tells-line _ _ _ _ _ _ _ (ap verdictAs (line .before .before .enum-told .given .1)) (line .line .ensures)
 
 returns-2 : tie.Need-returns-2
 returns-2 c = let line = c .before .before in

@@ -5,18 +5,19 @@ use mathlib.Core.Path.{_≡_}
 use Prim.Native.Nat.{_+_, _*_, _-_, _≤_}
 use native.Mathlib.Omega.{arith}
 use borrow.Author.Needs.{needs}
-use lib.ListN.{length, getD}
-use Rattle.text.proofs.FieldLaws.{Filled, filled-none, filled-more, filled-all}
+use lib.ListN.{getD, replicate}
+use Rattle.text.proofs.FieldLaws.{Filled, filled-none, filled-more, filled-front}
 use Rattle.text.specs.Program.{groupIn}
 
 abbrev Inv-loop : tie.InvT-loop
-Inv-loop numbers from cells₀ count i₀ cells i = (count ≡ length cells₀) × (i ≤ count) × Filled (λ j. groupIn (getD numbers (from + 4 * j) 0) (getD numbers (from + 4 * j + 2) 0)) i cells₀ cells
+Inv-loop numbers from count cells₀ i₀ cells i =
+    (i ≤ count) × Filled (λ j. groupIn (getD numbers (from + 4 * j) 0) (getD numbers (from + 4 * j + 2) 0)) i (replicate 4096 0) cells
 
 abbrev μ-loop : tie.MeasureT-loop
-μ-loop numbers from cells₀ count i₀ cells i = count - i
+μ-loop numbers from count cells₀ i₀ cells i = count - i
 
 loop-holds : tie.Need-loop-holds Inv-loop μ-loop
-loop-holds c = (search needs, search needs, filled-none _ _)
+loop-holds c = (search needs, filled-none _ _)
 
 mul-group : tie.Need-mul-group Inv-loop μ-loop
 mul-group c = search needs
@@ -51,8 +52,8 @@ group-requires c κs = search needs
 mul-cells : tie.Need-mul-cells Inv-loop μ-loop
 mul-cells c = search needs
 
-slice-write-cells : tie.Need-slice-write-cells Inv-loop μ-loop
-slice-write-cells c = let s = c .before .before .before .before .loop .inv .2 in
+array-write-cells : tie.Need-array-write-cells Inv-loop μ-loop
+array-write-cells c = let s = c .before .before .before .before .loop .inv .1 in
     omega arith
 
 add-i : tie.Need-add-i Inv-loop μ-loop
@@ -62,13 +63,10 @@ loop-less : tie.Need-loop-less Inv-loop μ-loop
 loop-less c = search needs
 
 loop-again : tie.Need-loop-again Inv-loop μ-loop
-loop-again c = (search needs, search needs, filled-more _ _ _ _ _ (omega arith) (c .group .ensures) (c .before .before .before .before .loop .inv .2))
-
-same-length : tie.Need-same-length Inv-loop μ-loop
-same-length c = c .before .loop .inv .2 .long
+loop-again c = (search needs, filled-more _ _ _ _ _ (omega arith) (c .group .ensures) (c .before .before .before .before .loop .inv .1))
 
 returns : tie.Need-returns Inv-loop μ-loop
-returns c = filled-all _ _ _ _ (omega arith) (c .before .loop .inv .2)
+returns c = filled-front _ _ _ _ _ (omega arith) (omega arith) (c .before .loop .inv .1)
 
 pub groups-spec : {M : Type 1} → statement M
 groups-spec =
@@ -88,9 +86,8 @@ groups-spec =
     shared-slice-read-group-2
     group-requires
     mul-cells
-    slice-write-cells
+    array-write-cells
     add-i
     loop-less
     loop-again
-    same-length
     returns)

@@ -6,7 +6,8 @@ use Prim.Native.Nat.{_+_, _-_, _≤_}
 use native.Mathlib.Omega.{arith}
 use borrow.Author.Needs.{needs}
 use lib.ListN.{length}
-use Rattle.text.proofs.ReaderLaws.{weight-one, ended-text, stands-first, InText, next-byte, bad-end, good-end}
+use Rattle.text.proofs.SizeLaws.{weight-one}
+use Rattle.text.proofs.ReaderLaws.{ended-text, stands-first, InText, next-byte, bad-end, good-end}
 
 abbrev Inv-loop : tie.InvT-loop
 Inv-loop input numbers₀ begun₀ count₀ i₀ numbers begun count i = (i ≤ length input + 1) × InText input numbers₀ numbers count begun i

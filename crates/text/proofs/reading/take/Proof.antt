@@ -8,7 +8,7 @@ use native.Mathlib.Omega.{arith}
 use borrow.Author.Tests.{not-true, not-false}
 use Rattle.text.specs.Words.{isBlank}
 use Rattle.text.specs.Reader.{ending, storing}
-use Rattle.text.proofs.ReaderLaws.{number-weighs}
+use Rattle.text.proofs.SizeLaws.{number-weighs}
 
 blank-requires : tie.Need-blank-requires
 blank-requires c κs = search needs

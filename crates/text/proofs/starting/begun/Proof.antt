@@ -10,44 +10,37 @@ use Rattle.records.specs.Verdicts.{verdictAs}
 use Rattle.text.proofs.PrintedLaws.{whole-text}
 use Rattle.text.proofs.StartLaws.{five, days-ready, start-refused, start-runs}
 
--- the places that the needs name: from the stores after the fresh state back to it, the first number read and the start
+-- the places that the needs name: from the stores after the fresh state back to it, the season read and the start
 abbrev fresh : tie.After-slice-known5 → tie.After-fresh
 fresh lent = lent .before .before .before .before
 
-abbrev number : tie.After-fresh → tie.After-shared-slice-known7
-number fresh = fresh .before .before .before .before .before .before
+abbrev season : tie.After-fresh → tie.After-season-in
+season fresh = fresh .before .before .before
 
-abbrev start : tie.After-shared-slice-known7 → tie.Start
-start number = number .before .before .before .before .before .before .before .before .before .before
+abbrev start : tie.After-season-in → tie.Start
+start season = season .before .before .before .before .before .before .before .before .before .before .before
 
-enough : (number : tie.After-shared-slice-known7) → 5 ≤ length (start number .args .numbers .now)
-enough number = five _ (start number .pre .1 .numbers)
+grid-in-requires : tie.Need-grid-in-requires
+grid-in-requires c κs = five _ (c .before .before .before .before .before .before .before .before .before .pre .1 .numbers)
 
-shared-slice-read-width : tie.Need-shared-slice-read-width
-shared-slice-read-width c = omega (arith, enough c)
-
-shared-slice-read-height : tie.Need-shared-slice-read-height
-shared-slice-read-height c = omega (arith, enough (c .before))
-
-shared-slice-read-first : tie.Need-shared-slice-read-first
-shared-slice-read-first c = omega (arith, enough (c .before .before))
-
-shared-slice-read-last : tie.Need-shared-slice-read-last
-shared-slice-read-last c = omega (arith, enough (c .before .before .before))
+season-in-requires : tie.Need-season-in-requires
+season-in-requires c κs = five _ (c .before .before .before .before .before .before .before .before .before .before .pre .1 .numbers)
 
 refusal-requires : tie.Need-refusal-requires
-refusal-requires c κs = omega (arith, start (number (fresh (c .before .before .before .before))) .pre .1 .room)
+refusal-requires c κs = omega (arith, start (season (fresh (c .before .before .before .before))) .pre .1 .room)
 
 days-requires : tie.Need-days-requires
-days-requires c κs = let p = start (number (fresh (c .before .before .before .before .before .before))) .pre in days-ready _ _ _ _ _ _ _ _ _ (p .0) (p .1)
+days-requires c κs = let p = start (season (fresh (c .before .before .before .before .before .before))) .pre in days-ready _ _ _ _ _ _ _ _ _ (p .0) (p .1)
 
 returns : tie.Need-returns
 returns c = let refusal = c .before .before in
     let told = refusal .before .before .before in
     let lent = told .before .before in
-    let p = start (number (fresh lent)) .pre in
+    let at = season (fresh lent) in
+    let p = start at .pre in
     whole-text
-    (start-refused _ _ _ _ _ _ _ _ _ (p .0) (p .1) _ _ _ (fresh lent .fresh .ensures) (ap verdictAs (told .verdict .given .1)))
+    (start-refused _ _ _ _ _ _ _ _ _ (p .0) (p .1) _ _ (at .before .grid-in .ensures) (at .season-in .ensures) _ _ _
+    (fresh lent .fresh .ensures) (ap verdictAs (told .verdict .given .1)))
     (omega arith)
     (refusal .refusal .ensures)
 
@@ -55,33 +48,69 @@ returns-2 : tie.Need-returns-2
 returns-2 c = let days = c .before .before .before .before .before .before in
     let told = days .before .before .before .before .before in
     let lent = told .before .before in
-    let p = start (number (fresh lent)) .pre in
+    let at = season (fresh lent) in
+    let p = start at .pre in
     whole-text
-    (start-runs _ _ _ _ _ _ _ _ _ (p .0) (p .1) _ _ (fresh lent .fresh .ensures) (ap verdictAs (told .enum-told .given .1)))
+    (start-runs _ _ _ _ _ _ _ _ _ (p .0) (p .1) _ _ (at .before .grid-in .ensures) (at .season-in .ensures) _ _
+    (fresh lent .fresh .ensures) (ap verdictAs (told .enum-told .given .1)))
     (omega arith)
     (days .days .ensures)
+
+add-from : tie.Need-add-from
+add-from c = search needs
+
+mul-from : tie.Need-mul-from
+mul-from c = search needs
+
+add-from-2 : tie.Need-add-from-2
+add-from-2 c = search needs
+
+fresh-requires : tie.Need-fresh-requires
+fresh-requires c κs = search needs
+
+enum-known-verdict : tie.Need-enum-known-verdict
+enum-known-verdict c = search needs
+
+enum-told : tie.Need-enum-told
+enum-told c = search needs
+
+same-length : tie.Need-same-length
+same-length c = search needs
+
+same-length-2 : tie.Need-same-length-2
+same-length-2 c = search needs
+
+same-length-3 : tie.Need-same-length-3
+same-length-3 c = search needs
+
+same-length-4 : tie.Need-same-length-4
+same-length-4 c = search needs
+
+same-length-5 : tie.Need-same-length-5
+same-length-5 c = search needs
+
+same-length-6 : tie.Need-same-length-6
+same-length-6 c = search needs
 
 pub begun-spec : {M : Type 1} → statement M
 begun-spec =
     tie.close
     (tie.spec
-    shared-slice-read-width
-    shared-slice-read-height
-    shared-slice-read-first
-    shared-slice-read-last
-    (λ c. search needs)
-    (λ c. search needs)
-    (λ c. search needs)
-    (λ c κs. search needs)
-    (λ c. search needs)
+    grid-in-requires
+    season-in-requires
+    add-from
+    mul-from
+    add-from-2
+    fresh-requires
+    enum-known-verdict
     refusal-requires
-    (λ c. search needs)
+    enum-told
     days-requires
-    (λ c. search needs)
-    (λ c. search needs)
-    (λ c. search needs)
+    same-length
+    same-length-2
+    same-length-3
     returns
-    (λ c. search needs)
-    (λ c. search needs)
-    (λ c. search needs)
+    same-length-4
+    same-length-5
+    same-length-6
     returns-2)

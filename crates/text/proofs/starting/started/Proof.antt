@@ -1,84 +1,123 @@
--- `starting::started` meets its contract: each part of an array of zeros has its slice's length, and no cover or cell is past an array's end.
+-- `starting::started` meets its contract: the arrays hold the setup at their fronts, both stores are parts of arrays of zeros, and no cover or cell
+-- is past an array's end.
 use borrow.Author.Needs.{needs}
 use Rattle.text.proofs.starting.started.Statement.{statement}
 use Rattle.text.proofs.starting.started.Tie as tie
-use mathlib.Core.Path.{ap}
-use Prim.Native.Nat.{_*_, _≤_}
+use mathlib.Core.Path.{_≡_, sym, ap}
+use Prim.Native.Nat.{_+_, _*_, _≤_}
 use native.Mathlib.Omega.{arith}
+use lib.Dec.{lit<}
+use lib.ListN.{length}
+use lib.Seq.{length-take-le}
 use Rattle.text.specs.Program.{coverCount}
+use Rattle.text.proofs.LayingLaws.{cell-room, laid}
 use Rattle.text.proofs.OneDayLaws.{part-length}
-use Rattle.text.proofs.StartLaws.{five, fits, spaced, lent}
+use Rattle.text.proofs.StartLaws.{five, fits, lent}
 
--- the places that the needs name: the count of covers and the start
+-- the places that the needs name: from the last column back to the table, the count of covers and the start
+abbrev table : tie.After-column3 → tie.After-table
+table last = last .before .before .before .before
+
+abbrev place : tie.After-column3 → tie.After-place
+place last = table last .before
+
 abbrev start : tie.After-place → tie.Start
 start place = place .before .before .before .before
 
-abbrev place : tie.After-direction → tie.After-place
-place direction = direction .before .before
+cells-fit : (place : tie.After-place) → start place .args .cells ≤ 4096
+cells-fit place = fits _ _ (start place .pre .0)
 
-cells-fit : (direction : tie.After-direction) → start (place direction) .args .cells ≤ 4096
-cells-fit direction = fits _ _ (start (place direction) .pre .0)
+counted : (place : tie.After-place) → 16 * place .place .result ≡ 16 * coverCount (start place .args .numbers .now)
+unfolding coverCount
+counted place = ap (_*_ 16) (place .place .ensures)
 
 covers-fit : (place : tie.After-place) → 16 * place .place .result ≤ 1024
-unfolding coverCount
-covers-fit place = omega (arith, place .place .ensures, start place .pre .0 .covers)
+covers-fit place = omega (arith, counted place, start place .pre .0 .covers)
+
+room : (place : tie.After-place) → 5 + 16 * place .place .result + 4 * start place .args .cells ≤ length (start place .args .numbers .now)
+room place = cell-room _ _ _ (start place .pre .0) (counted place)
 
 shared-slice-read-place : tie.Need-shared-slice-read-place
 shared-slice-read-place c = omega (arith, five _ (c .before .before .before .pre .0 .numbers))
 
+mul-count : tie.Need-mul-count
+mul-count c = omega (arith, covers-fit c)
+
+add-from : tie.Need-add-from
+add-from c = omega (arith, covers-fit c)
+
+table-requires : tie.Need-table-requires
+table-requires c κs = (omega (arith, room c), covers-fit c)
+
+column-requires : tie.Need-column-requires
+column-requires c κs = (room (c .before), lit< tt, cells-fit (c .before))
+
+column-requires-2 : tie.Need-column-requires-2
+column-requires-2 c κs = (room (c .before .before), lit< tt, cells-fit (c .before .before))
+
+groups-requires : tie.Need-groups-requires
+groups-requires c κs = (room (c .before .before .before), cells-fit (c .before .before .before))
+
+column-requires-3 : tie.Need-column-requires-3
+column-requires-3 c κs = (room (c .before .before .before .before), lit< tt, cells-fit (c .before .before .before .before))
+
+slice-aggregate-begun : tie.Need-slice-aggregate-begun
+slice-aggregate-begun c = sym (length-take-le _ _ (table (c .before) .table .ensures .room))
+
+slice-aggregate-begun-2 : tie.Need-slice-aggregate-begun-2
+slice-aggregate-begun-2 c = sym (length-take-le _ _ (c .before .before .before .before .before .column .ensures .room))
+
+slice-aggregate-begun-3 : tie.Need-slice-aggregate-begun-3
+slice-aggregate-begun-3 c = sym (length-take-le _ _ (c .before .before .before .before .before .column2 .ensures .room))
+
+slice-aggregate-begun-4 : tie.Need-slice-aggregate-begun-4
+slice-aggregate-begun-4 c = sym (length-take-le _ _ (c .before .before .before .before .before .groups .ensures .room))
+
+slice-aggregate-begun-5 : tie.Need-slice-aggregate-begun-5
+slice-aggregate-begun-5 c = sym (length-take-le _ _ (c .before .before .before .before .before .column3 .ensures .room))
+
+slice-aggregate-begun-6 : tie.Need-slice-aggregate-begun-6
+slice-aggregate-begun-6 c = part-length _ 4096 (cells-fit (place (c .before .before .before .before .before .before)))
+
+slice-aggregate-begun-7 : tie.Need-slice-aggregate-begun-7
+slice-aggregate-begun-7 c = part-length _ 4096 (cells-fit (place (c .before .before .before .before .before .before .before)))
+
+begun-requires : tie.Need-begun-requires
+begun-requires c κs = let last = c .before .before .before .before .before .before .before .before in
+    let first = table last in
+    let p = start (place last) .pre in (
+      laid _ _ _ (p .0) (counted (place last)) _ _ _ _ _
+          (first .table .ensures)
+          (last .before .before .before .column .ensures)
+          (last .before .before .column2 .ensures)
+          (last .before .groups .ensures)
+          (last .column3 .ensures),
+      lent _ _ (p .0) _ (p .1) (p .2),
+    )
+
 place-requires : tie.Need-place-requires
 place-requires c κs = search needs
 
-mul-table : tie.Need-mul-table
-mul-table c = omega (arith, covers-fit c)
+array-share-prefix-covers : tie.Need-array-share-prefix-covers
+array-share-prefix-covers c = search needs
 
-array-borrow-prefix-covers : tie.Need-array-borrow-prefix-covers
-array-borrow-prefix-covers c = covers-fit c
+array-share-prefix-direction : tie.Need-array-share-prefix-direction
+array-share-prefix-direction c = search needs
 
-slice-aggregate-laid-out : tie.Need-slice-aggregate-laid-out
-slice-aggregate-laid-out c = part-length _ 1024 (covers-fit (c .before))
+array-share-prefix-cover : tie.Need-array-share-prefix-cover
+array-share-prefix-cover c = search needs
 
-array-borrow-prefix-direction : tie.Need-array-borrow-prefix-direction
-array-borrow-prefix-direction c = search needs
+array-share-prefix-group : tie.Need-array-share-prefix-group
+array-share-prefix-group c = search needs
 
-slice-aggregate-laid-out-2 : tie.Need-slice-aggregate-laid-out-2
-slice-aggregate-laid-out-2 c = part-length _ 4096 (cells-fit c)
-
-array-borrow-prefix-cover : tie.Need-array-borrow-prefix-cover
-array-borrow-prefix-cover c = search needs
-
-slice-aggregate-laid-out-3 : tie.Need-slice-aggregate-laid-out-3
-slice-aggregate-laid-out-3 c = part-length _ 4096 (cells-fit (c .before))
-
-array-borrow-prefix-group : tie.Need-array-borrow-prefix-group
-array-borrow-prefix-group c = search needs
-
-slice-aggregate-laid-out-4 : tie.Need-slice-aggregate-laid-out-4
-slice-aggregate-laid-out-4 c = part-length _ 4096 (cells-fit (c .before .before))
-
-array-borrow-prefix-water : tie.Need-array-borrow-prefix-water
-array-borrow-prefix-water c = search needs
-
-slice-aggregate-laid-out-5 : tie.Need-slice-aggregate-laid-out-5
-slice-aggregate-laid-out-5 c = part-length _ 4096 (cells-fit (c .before .before .before))
+array-share-prefix-water : tie.Need-array-share-prefix-water
+array-share-prefix-water c = search needs
 
 array-borrow-prefix-soil : tie.Need-array-borrow-prefix-soil
 array-borrow-prefix-soil c = search needs
 
-slice-aggregate-laid-out-6 : tie.Need-slice-aggregate-laid-out-6
-slice-aggregate-laid-out-6 c = part-length _ 4096 (cells-fit (c .before .before .before .before))
-
 array-borrow-prefix-snow : tie.Need-array-borrow-prefix-snow
 array-borrow-prefix-snow c = search needs
-
-slice-aggregate-laid-out-7 : tie.Need-slice-aggregate-laid-out-7
-slice-aggregate-laid-out-7 c = part-length _ 4096 (cells-fit (c .before .before .before .before .before))
-
-laid-out-requires : tie.Need-laid-out-requires
-unfolding coverCount
-laid-out-requires c κs = let at = place (c .before .before .before .before .before .before) in
-    let p = start at .pre in
-    (spaced _ _ (p .0) _ (ap (_*_ 16) (at .place .ensures)), lent _ _ (p .0) _ (p .1) (p .2))
 
 same-length : tie.Need-same-length
 same-length c = search needs
@@ -92,21 +131,27 @@ started-spec =
     (tie.spec
     shared-slice-read-place
     place-requires
-    mul-table
-    array-borrow-prefix-covers
-    slice-aggregate-laid-out
-    array-borrow-prefix-direction
-    slice-aggregate-laid-out-2
-    array-borrow-prefix-cover
-    slice-aggregate-laid-out-3
-    array-borrow-prefix-group
-    slice-aggregate-laid-out-4
-    array-borrow-prefix-water
-    slice-aggregate-laid-out-5
+    mul-count
+    add-from
+    table-requires
+    column-requires
+    column-requires-2
+    groups-requires
+    column-requires-3
+    array-share-prefix-covers
+    slice-aggregate-begun
+    array-share-prefix-direction
+    slice-aggregate-begun-2
+    array-share-prefix-cover
+    slice-aggregate-begun-3
+    array-share-prefix-group
+    slice-aggregate-begun-4
+    array-share-prefix-water
+    slice-aggregate-begun-5
     array-borrow-prefix-soil
-    slice-aggregate-laid-out-6
+    slice-aggregate-begun-6
     array-borrow-prefix-snow
-    slice-aggregate-laid-out-7
-    laid-out-requires
+    slice-aggregate-begun-7
+    begun-requires
     same-length
     returns)
