@@ -78,7 +78,7 @@ module _
         direction = laid .directions k;
         cover = laid .codes k;
         group = laid .groups k;
-        water = laid .waters k;
+        available = laid .waters k;
       }
 
       abbrev first : Fresh

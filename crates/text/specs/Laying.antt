@@ -25,4 +25,4 @@ pub record Laid (ns covers direction cover group water : List ℕ) : Type 0 wher
   pub directions : direction ≡ setup ns .direction
   pub codes : cover ≡ setup ns .cover
   pub groups : group ≡ setup ns .group
-  pub waters : water ≡ setup ns .water
+  pub waters : water ≡ setup ns .available

@@ -60,7 +60,7 @@ module _ (ns : List ℕ) where
         direction = made cellCount (λ i. field (cellsFrom + 4 * i));
         cover = made cellCount (λ i. field (cellsFrom + 4 * i + 1));
         group = made cellCount (λ i. groupIn (field (cellsFrom + 4 * i)) (field (cellsFrom + 4 * i + 2)));
-        water = made cellCount (λ i. field (cellsFrom + 4 * i + 3));
+        available = made cellCount (λ i. field (cellsFrom + 4 * i + 3));
       }
 
   unfoldable pub dayAt : ℕ → Day
