@@ -1,12 +1,13 @@
 #!/usr/bin/env python3
-"""Tries small slips in the paper's definitions: each must be refused by the paper's own laws.
+"""Tries small slips in the paper's definitions on the paper's own laws, which ought to refuse each.
 
     bench/slips.py [EACH]
 
-Works on a copy of theory and paper in a temporary folder. A slip changes one place of crates/paper/specs: a number one up or one down, ltb for leb or leb
-for ltb, && for ||, + for - or - for +. Of all slips every EACH-th is tried (default: all, some
-minutes each hundred). Prints the slips that pass, with file and line, and their count; docs/PROMISES.md names those that never show. Needs python3 and rt."""
-import os, re, shutil, subprocess, sys, tempfile
+Works on a copy of theory and paper in a temporary folder. A slip changes one place of crates/paper/specs: a number one up
+or one down, ltb for leb or leb for ltb, && for ||, + for - or - for +. Of all slips every EACH-th is tried (default 1; a
+hundred take some minutes). Prints each slip that passes, with its file and line, and at the end their count. A slip that
+passes is either no change of meaning or one that no law sees. Needs python3 and rt."""
+import re, shutil, subprocess, sys, tempfile
 from pathlib import Path
 
 ROOT = Path(__file__).resolve().parent.parent
