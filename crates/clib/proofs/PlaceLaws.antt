@@ -12,7 +12,7 @@ use Rattle.theory.specs.Lowest.{Found, at, nowhere, lowest}
 use Rattle.theory.proofs.Cases.{byCases, and-right, cond-true, cond-false}
 use Rattle.theory.proofs.LowestLaws.{lowest-at}
 use Rattle.paper.specs.Covers.{entries, sizeFits}
-use Rattle.paper.specs.Setup.{Setup, Grid, cellsIn, gridFits}
+use Rattle.paper.specs.Setup.{Setup, Grid, cellsOf, gridFits}
 use Rattle.paper.specs.State.{State, Day}
 use Rattle.paper.specs.Refusals.{grid, placeOf, verdictPlace, Test, verdict, single, judged, coverPlaces, setupTests, mapTests, dayTests}
 use Rattle.paper.specs.Day as paper
@@ -34,7 +34,7 @@ near (t ∷ ts) n = go (lowest (t .places) (t .fails)) refl (near ts (n .1))
     go nowhere e rest = unfold judged in rest
 
 -- with the grid's test before them
-after-grid : (g : Grid) (ts : List Test) → (cellsIn g ≤ 4096 → Near ts) → verdictPlace (verdict (single (gridFits g) grid ∷ ts)) ≤ 4096
+after-grid : (g : Grid) (ts : List Test) → (cellsOf g ≤ 4096 → Near ts) → verdictPlace (verdict (single (gridFits g) grid ∷ ts)) ≤ 4096
 unfolding gridFits verdictPlace placeOf
 after-grid g ts n =
     byCases (gridFits g)

@@ -20,14 +20,14 @@ use Rattle.paper.specs.CurveNumber.{Condition}
 use Rattle.paper.specs.State.{mostSoilOf}
 use Rattle.paper.specs.CellDay.{Today, figureOf, interceptedOf, netOf, rainOf}
 use Rattle.paper.proofs.CurveNumberLaws.{curve-number-limits}
-use Rattle.weather.specs.Conditions.{curveNumberIn}
+use Rattle.weather.specs.Conditions.{curveNumberBy}
 use Rattle.weather.proofs.TodayLaws.{table-number}
 use Rattle.covers.specs.Slots.{openAt, seasonAt, groupNumberAt, cellFrom}
-use Rattle.covers.specs.Plots.{caughtOf, wetOf, fallOf, curveOf, curveIn, drainOf, sharedBy, plotNumber, plotsOf, plotFor, plotAt, plotIn}
+use Rattle.covers.specs.Plots.{caughtOf, wetOf, fallOf, curveOf, curveBy, drainOf, sharedBy, plotNumber, plotsOf, plotFor, plotAt, plotBy}
 
 -- a number of 32 bits is one again in any condition
-pub curve-small : (condition : Condition) (N : ℕ) → N < 4294967296 → curveNumberIn condition N < 4294967296
-unfolding curveNumberIn
+pub curve-small : (condition : Condition) (N : ℕ) → N < 4294967296 → curveNumberBy condition N < 4294967296
+unfolding curveNumberBy
 curve-small condition N h =
     byCases (within leastCurveNumber mostCurveNumber N)
     (λ e. rw (cond-true (within leastCurveNumber mostCurveNumber N) e)
@@ -38,7 +38,7 @@ curve-small condition N h =
 -- a slot's numbers from the code's steps
 module _ (t : Today) (covers : List ℕ) (slot : ℕ) where
   pub on-water : eqb (openOf covers (slot / 4)) 1 ≡ true → (0 ∷ t .gross ∷ 0 ∷ 0 ∷ 0 ∷ 0 ∷ []) ≡ sharedBy t covers slot
-  unfolding sharedBy caughtOf wetOf fallOf curveIn groupNumberAt drainOf cellFrom
+  unfolding sharedBy caughtOf wetOf fallOf curveBy groupNumberAt drainOf cellFrom
   on-water wet = rw wet
 
   season : (growing : Bool) → numberOf covers (slot / 4) (cond growing 10 11) ≡ cond growing (growingOf covers (slot / 4)) (dormantOf covers (slot / 4))
@@ -48,10 +48,10 @@ module _ (t : Today) (covers : List ℕ) (slot : ℕ) where
   pub on-land : (figure held rest rain fall table curve root largest : ℕ) → eqb (openOf covers (slot / 4)) 1 ≡ false
       → figure ≡ numberOf covers (slot / 4) (cond (t .growing?) 10 11) → held ≡ min (t .gross) figure → rest ≡ t .gross - held
       → rain ≡ given (not (t .snows?)) rest → fall ≡ given (t .snows?) rest
-      → table ≡ curveNumberOf covers (slot / 4) (slot % 4 + 1) → curve ≡ curveNumberIn (t .condition) table
+      → table ≡ curveNumberOf covers (slot / 4) (slot % 4 + 1) → curve ≡ curveNumberBy (t .condition) table
       → root ≡ rootDepthOf covers (slot / 4) (slot % 4 + 1) → largest ≡ largestOf covers (slot / 4) (slot % 4 + 1)
       → (held ∷ rain ∷ fall ∷ curve ∷ root ∷ largest ∷ []) ≡ sharedBy t covers slot
-  unfolding sharedBy caughtOf wetOf fallOf curveIn groupNumberAt drainOf cellFrom interceptedOf rainOf netOf figureOf net intercepted
+  unfolding sharedBy caughtOf wetOf fallOf curveBy groupNumberAt drainOf cellFrom interceptedOf rainOf netOf figureOf net intercepted
   on-land figure held rest rain fall table curve root largest dry ef eh er en el et ec eo eg =
       rw (dry, en, el, ec, et, eo, eg, er, eh, ef, season (t .growing?))
 
@@ -111,8 +111,8 @@ module _ (t : Today) (covers before plots : List ℕ) (few : t .gross ≤ mostGr
   abbrev N : ℕ
   N = curveNumberOf covers (slot / 4) (slot % 4 + 1)
 
-  pub plot-is : (available way : ℕ) → leastCurveNumber ≤ N → N ≤ mostCurveNumber → plotIn plots slot available ≡ plotFor t (cellFrom covers slot available way)
-  unfolding plotIn plotFor sharedBy caughtOf wetOf fallOf curveOf curveIn groupNumberAt drainOf cellFrom interceptedOf rainOf netOf figureOf mostSoilOf
+  pub plot-is : (available way : ℕ) → leastCurveNumber ≤ N → N ≤ mostCurveNumber → plotBy plots slot available ≡ plotFor t (cellFrom covers slot available way)
+  unfolding plotBy plotFor sharedBy caughtOf wetOf fallOf curveOf curveBy groupNumberAt drainOf cellFrom interceptedOf rainOf netOf figureOf mostSoilOf
   plot-is available way low high =
       λ k. record {
         intercepted = at-place 0 (omega arith) k;

@@ -13,7 +13,7 @@ use Rattle.paper.specs.Setup.{Cell}
 use Rattle.paper.specs.State.{mostSoilOf}
 use Rattle.paper.specs.CurveNumber.{curveNumber}
 use Rattle.paper.specs.CellDay.{Today, interceptedOf, netOf, rainOf}
-use Rattle.weather.specs.Conditions.{curveNumberIn}
+use Rattle.weather.specs.Conditions.{curveNumberBy}
 use Rattle.covers.specs.Slots.{groupNumberAt, cellFrom}
 use Rattle.covers.specs.declared.plots.SlotDay.{SlotDay}
 
@@ -32,8 +32,8 @@ unfoldable pub curveOf : Today → Cell → ℕ
 curveOf t c = cond (c .open?) 0 (curveNumber (t .condition) (c .N))
 
 -- and as the code reads it of any table's number
-unfoldable pub curveIn : Today → Cell → ℕ
-curveIn t c = cond (c .open?) 0 (curveNumberIn (t .condition) (c .N))
+unfoldable pub curveBy : Today → Cell → ℕ
+curveBy t c = cond (c .open?) 0 (curveNumberBy (t .condition) (c .N))
 
 -- the largest recharge
 unfoldable pub drainOf : Cell → ℕ
@@ -45,7 +45,7 @@ sharedBy t covers slot =
     caughtOf t (cellFrom covers slot 0 0)
     ∷ wetOf t (cellFrom covers slot 0 0)
     ∷ fallOf t (cellFrom covers slot 0 0)
-    ∷ curveIn t (cellFrom covers slot 0 0)
+    ∷ curveBy t (cellFrom covers slot 0 0)
     ∷ groupNumberAt covers 11 slot
     ∷ drainOf (cellFrom covers slot 0 0)
     ∷ []
@@ -95,8 +95,8 @@ abbrev pub plotAt : List ℕ → ℕ → ℕ → ℕ
 plotAt plots slot k = getD plots (6 * slot + k) 0
 
 -- the slot's numbers, and the most that the soil holds with that available water
-unfoldable pub plotIn : List ℕ → ℕ → ℕ → Plot
-plotIn plots slot available =
+unfoldable pub plotBy : List ℕ → ℕ → ℕ → Plot
+plotBy plots slot available =
     record {
       intercepted = plotAt plots slot 0;
       rain = plotAt plots slot 1;

@@ -15,7 +15,7 @@ pub use plots::lay_plots;
 pub use slots::MOST_SLOTS;
 pub use slots::is_open;
 pub use slots::root_depths;
-pub use slots::small_place;
+pub use slots::small_index;
 pub use table::CODES;
 pub use table::ENTRY_NUMBERS;
 pub use table::MOST_ENTRIES;

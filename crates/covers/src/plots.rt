@@ -51,8 +51,8 @@ struct SlotDay {
     largest_recharge: u32,
 }
 
-// The place of the season's interception figure.
-fn season_place(growing: bool) -> usize
+// Which of an entry's numbers is interception in this season.
+fn season_figure(growing: bool) -> usize
     ensures { λ r. ⌜ (r ≡ cond growing 10 11) × (r < 16) ⌝ }
 {
     if growing {
@@ -86,7 +86,7 @@ fn slot_day(today: Today, covers: &[u32], slot: usize) -> SlotDay
         };
     }
     let group = slot % 4 + 1;
-    let figure = number_at(covers, slot, season_place(today.growing));
+    let figure = number_at(covers, slot, season_figure(today.growing));
     let intercepted = gross.smaller(depth(figure));
     let net = gross.beyond(intercepted);
     let table = CurveNumber(number_at(covers, slot, CURVE_NUMBERS + group) as u64);

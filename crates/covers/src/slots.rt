@@ -18,7 +18,7 @@ const MOST_NUMBERS: usize = ENTRY_NUMBERS * MOST_ENTRIES;
 const NO_SOIL: u32 = 0;
 
 // A slot has 8 bits, since 64 entries have 256 slots; so has an entry of the index.
-pub fn small_place(x: u8) -> usize
+pub fn small_index(x: u8) -> usize
     ensures { λ r. ⌜ (r ≡ x) × (r < 256) ⌝ }
 {
     x as usize

@@ -12,7 +12,7 @@ use records::Depth;
 use records::Place;
 use records::Refusal;
 use records::Verdict;
-use records::place;
+use records::index_of;
 use records::wide;
 
 // Numbers an entry.
@@ -125,7 +125,7 @@ fn index_codes(covers: &[u32], index: &mut [u8; CODES])
     let count = covers.len() / ENTRY_NUMBERS;
     let mut e = 0;
     while e < count {
-        let code = place(covers[ENTRY_NUMBERS * e]);
+        let code = index_of(covers[ENTRY_NUMBERS * e]);
         index[code] = (e + 1) as u8;
         e += 1;
     }

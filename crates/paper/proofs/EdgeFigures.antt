@@ -13,7 +13,7 @@ use Rattle.theory.specs.Sums.{sum, given}
 use Rattle.theory.specs.Ways.{walk, onRing}
 use Rattle.paper.specs.Covers.{entries, sizeFits, groupFits, rises, entryFits}
 use Rattle.paper.specs.Directions.{wayOf, stepped, cellAt, goesBy}
-use Rattle.paper.specs.Setup.{Setup, Cell, cell, cellsIn, gridFits, seasonFits, growing, placeOr, entryOf, cellFits, isOpen, goes, pointed, next, isClosed}
+use Rattle.paper.specs.Setup.{Setup, Cell, cell, cellsOf, gridFits, seasonFits, growing, placeOr, entryOf, cellFits, isOpen, goes, pointed, next, isClosed}
 use Rattle.paper.specs.State.{Memory, none, serial, State, Day, noRain, noPast, remembered, fiveDays, mostSoilOf, mostSnowOf, storesFit, memoryFits, lastFits, pastFits, dayFits, follows, freshState}
 use Rattle.paper.specs.Interception.{intercepted, net}
 use Rattle.paper.specs.Snow.{fallsAsSnow, aboveFreezing, meltable}
@@ -224,7 +224,7 @@ pub record Edges : Type 0 where
 
 pub edges : Edges
 unfolding
-    made orAt lowest isFound some sum given walk onRing entries sizeFits groupFits rises entryFits wayOf stepped cellAt goesBy cell cellsIn gridFits
+    made orAt lowest isFound some sum given walk onRing entries sizeFits groupFits rises entryFits wayOf stepped cellAt goesBy cell cellsOf gridFits
     seasonFits growing placeOr entryOf cellFits isOpen goes pointed next isClosed remembered fiveDays mostSoilOf mostSnowOf storesFit memoryFits
     lastFits pastFits dayFits follows freshState intercepted net fallsAsSnow aboveFreezing meltable class conditionOf today figureOf netOf storeOf
     numberOf placeOf verdictNumber verdictPlace single judged verdict oneEach setupLengths coverPlaces coverFits mapTests setupTests stateFits

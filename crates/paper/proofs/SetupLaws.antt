@@ -18,7 +18,7 @@ use Rattle.theory.proofs.WayLaws.{ring-free, free-order}
 use Rattle.paper.specs.Limits.{mostCells, mostInterception}
 use Rattle.paper.specs.Covers.{entries, sizeFits, entryFits, groupFits, codeOf, growingOf, dormantOf}
 use Rattle.paper.specs.Directions.{Step, less, same, more, Way, toward, closed, stepped, Goes, to, leaves, stays, openWater, cellAt, goesBy, wayOf}
-use Rattle.paper.specs.Setup.{Setup, Cell, cell, cells, cellsIn, gridFits, seasonFits, coverOf, groupOf, entryOf, placeOr, cellFits, isOpen, goes, pointed, isClosed, next}
+use Rattle.paper.specs.Setup.{Setup, Cell, cell, cells, cellsOf, gridFits, seasonFits, coverOf, groupOf, entryOf, placeOr, cellFits, isOpen, goes, pointed, isClosed, next}
 use Rattle.paper.specs.Refusals.{Refusal, Test, accepted, verdict, single, oneEach, coverPlaces, coverFits, setupTests, mapTests}
 use Rattle.paper.proofs.RefusalLaws.{Passes, testAt, accepted-passes}
 
@@ -201,7 +201,7 @@ module _ (s : Setup) (ok : Charted s) where
   goes-land i e = cond-false (isOpen s i) e _ _
 
   pub to-inside : (i j : ℕ) → i < cells s → goes s i ≡ to j → j < cells s
-  unfolding cellsIn
+  unfolding cellsOf
   to-inside i j h e =
       byCases (isOpen s i) (λ o. absurd (open-not-to (sym (goes-open i o) ∙ e)))
       (λ o. goes-inside (s .grid .width) (s .grid .height) i _ j (ok .wide) h (sym (goes-land i o) ∙ e))

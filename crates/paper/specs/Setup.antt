@@ -38,14 +38,14 @@ pub record Setup : Type 0 where
   pub group : List ℕ
   pub available : List ℕ
 
-unfoldable pub cellsIn : Grid → ℕ
-cellsIn g = g .width * g .height
+unfoldable pub cellsOf : Grid → ℕ
+cellsOf g = g .width * g .height
 
 abbrev pub cells : Setup → ℕ
-cells s = cellsIn (s .grid)
+cells s = cellsOf (s .grid)
 
 unfoldable pub gridFits : Grid → Bool
-gridFits g = leb 1 (g .width) && leb 1 (g .height) && leb (cellsIn g) mostCells
+gridFits g = leb 1 (g .width) && leb 1 (g .height) && leb (cellsOf g) mostCells
 
 unfoldable pub seasonFits : Season → Bool
 seasonFits s = within 1 lastDayOfYear (s .first) && within 1 lastDayOfYear (s .last) && leb (s .first) (s .last)

@@ -25,9 +25,7 @@ use Rattle.paper.proofs.DayLaws as days
 use Rattle.paper.proofs.FlowLaws.{arriving-same}
 use Rattle.paper.proofs.SetupLaws.{Charted, SoundCell, sound-cell, closed-by, open-by, to-inside, next-past}
 use Rattle.paper.proofs.SnowLaws.{melt-most}
-use Rattle.survey.specs.Cells.{slotOf}
-use Rattle.survey.specs.Routes.{nextIn}
-use Rattle.survey.specs.Survey.{Mapped}
+use Rattle.survey.specs.Charts.{slotOf, nextAs, Mapped}
 use Rattle.records.specs.Verdicts.{verdictAs, verdictIn}
 use Rattle.records.specs.declared.verdicts.Verdict as code
 use Rattle.records.specs.declared.verdicts.Verdict.the-variants.{Accepted}
@@ -83,8 +81,8 @@ module _ (s : Setup) (st : State) (r : paper.Results) (d : Day) (before ways₀ 
         rejections = eqb-true _ _ (search (and-left, and-right) depth 12);
       }
 
-  ways-point : nextIn (cells s) ways ≡ next s
-  ways-point = ap (nextIn (cells s)) (m .ways-are) ∙ ways-next (cells s) (next s) ways₀ (next-past s chart (lent .directions) (lent .covers))
+  ways-point : nextAs (cells s) ways ≡ next s
+  ways-point = ap (nextAs (cells s)) (m .ways-are) ∙ ways-next (cells s) (next s) ways₀ (next-past s chart (lent .directions) (lent .covers))
 
   known : DayKnown d
   known = day-known d (ok .day)

@@ -18,11 +18,11 @@ use Rattle.paper.specs.Day as paper
 use Rattle.paper.specs.Flow.{water}
 use Rattle.paper.proofs.FlowLaws.{water-reached, water-most}
 use Rattle.paper.proofs.ArrivalLaws.{Arrived, arrived-none, arrived-reached, arrived-fits, arrived-next}
-use Rattle.survey.specs.Routes.{nextIn}
+use Rattle.survey.specs.Charts.{nextAs}
 use Rattle.survey.proofs.CountLaws.{way-next}
 use Rattle.recharge.specs.Depths.{gatheredLimit, past32}
 use Rattle.recharge.specs.Retention.{table}
-use Rattle.covers.specs.Plots.{Plot, plotIn}
+use Rattle.covers.specs.Plots.{Plot, plotBy}
 use Rattle.recharge.specs.CellDay.{figuresWith, figuresBy, CellReady, Fit32}
 use Rattle.records.specs.Answers.{totalsAs}
 use Rattle.recharge.specs.Totals.{withCell, totalsBy, Room}
@@ -41,7 +41,7 @@ module _
     (slot s n a : ℕ)
     (p : Plot)
     (is-slot : slot ≡ getD slots i 0)
-    (is-plot : p ≡ plotIn plots slot (getD available i 0))
+    (is-plot : p ≡ plotBy plots slot (getD available i 0))
     (is-soil : s ≡ getD soil i 0)
     (is-snow : n ≡ getD snow i 0)
     (is-arrived : a ≡ getD arrived i 0)
@@ -60,7 +60,7 @@ module _ {t : Today} {plots slots ways order available : List ℕ} {s₀ : Slice
   n = length available
 
   abbrev next : ℕ → ℕ
-  next = nextIn n ways
+  next = nextAs n ways
 
   abbrev o : UpslopeFirst n next
   o = ready .ordered .order
@@ -182,7 +182,7 @@ module _
       pass-small = lt-of-lt-of-le pass-inside (all .pointing .most)
 
       -- its way leads where it points
-      points : nextIn (length available) ways cell ≡ getD ways cell 0
+      points : nextAs (length available) ways cell ≡ getD ways cell 0
       points = sym (way-next (all .pointing) cell pass-inside)
 
       soil-still : getD (s .soil) cell 0 ≡ getD (s₀ .soil) cell 0

@@ -9,7 +9,7 @@ use lib.ListN.{length}
 use borrow.Author.Tests.{eqb-true}
 use Rattle.theory.proofs.Cases.{byCases, and-left, and-right}
 use Rattle.paper.specs.Limits.{mostGross}
-use Rattle.paper.specs.Setup.{Setup, Grid, cells, cellsIn, gridFits}
+use Rattle.paper.specs.Setup.{Setup, Grid, cells, cellsOf, gridFits}
 use Rattle.paper.specs.State.{State, Past, Day, dayFits, follows}
 use Rattle.paper.specs.CellDay.{Today, today}
 use Rattle.paper.specs.Refusals.{Refusal, grid, lent, dayRecord, serialGap, Verdict, accepted, refused, Test, verdict, single, oneEach, setupLengths, setupTests, dayTests}
@@ -19,12 +19,12 @@ use Rattle.records.specs.Verdicts.{verdictIn}
 use Rattle.records.specs.declared.verdicts.Verdict as code
 use Rattle.records.specs.declared.verdicts.Verdict.the-variants.{Accepted}
 use Rattle.records.proofs.VerdictLaws.{accepted-back}
-use Rattle.weather.specs.Today.{todayAs, todayIn}
+use Rattle.weather.specs.Today.{todayAs, weatherOf}
 use Rattle.weather.proofs.TodayLaws.{day-known, today-fits}
 use Rattle.covers.specs.Plots.{plotsOf}
 use Rattle.covers.proofs.PlotLaws.{fall-is}
 use Rattle.covers.proofs.TableLaws.{count-limit}
-use Rattle.survey.specs.Survey.{Mapped, Surveyed}
+use Rattle.survey.specs.Charts.{Mapped, Surveyed}
 use Rattle.survey.proofs.CallLaws.{grid-bad, more-bad, more-fit}
 use Rattle.stores.specs.States.{lentTests, stateTests}
 use Rattle.stores.specs.Snowfall.{Falls, snowTests}
@@ -50,18 +50,18 @@ module _ (g : Grid) (more : List ℕ) where
   unfolding lentTests
   no-grid f = fail-single _ _ grid f
 
-  pub not-each : gridFits g ≡ true → oneEach (cellsIn g) more ≡ false → verdict (lentTests g more) ≡ refused lent
+  pub not-each : gridFits g ≡ true → oneEach (cellsOf g) more ≡ false → verdict (lentTests g more) ≡ refused lent
   unfolding lentTests
   not-each f e = pass-single _ _ grid f ∙ fail-single _ _ lent e
 
-  pub lent-good : gridFits g ≡ true → oneEach (cellsIn g) more ≡ true → verdict (lentTests g more) ≡ accepted
+  pub lent-good : gridFits g ≡ true → oneEach (cellsOf g) more ≡ true → verdict (lentTests g more) ≡ accepted
   unfolding lentTests verdict
-  lent-good f e = pass-single (single (oneEach (cellsIn g) more) lent ∷ []) _ grid f ∙ pass-single [] _ lent e
+  lent-good f e = pass-single (single (oneEach (cellsOf g) more) lent ∷ []) _ grid f ∙ pass-single [] _ lent e
 
-  pub lent-passes : verdict (lentTests g more) ≡ accepted → oneEach (cellsIn g) more ≡ true
+  pub lent-passes : verdict (lentTests g more) ≡ accepted → oneEach (cellsOf g) more ≡ true
   lent-passes v =
       byCases (gridFits g)
-      (λ f. byCases (oneEach (cellsIn g) more) (λ e. e)
+      (λ f. byCases (oneEach (cellsOf g) more) (λ e. e)
       (λ e. absurd (clash lent (sym v ∙ not-each f e))))
       (λ f. absurd (clash grid (sym v ∙ no-grid f)))
 
@@ -97,7 +97,7 @@ module _ (g : Grid) (covers slots available soil snow : List ℕ) (past : Past) 
     record-good e = pass-single _ _ dayRecord day ∙ pass-single _ _ serialGap e
 
 -- of a setup that passed, with its slots and the day's plots
-module _ (s : Setup) (st : State) (d : Day) (slots plots₀ : List ℕ) (ok : stores.Testable s st slots) (t : Today) (is : t ≡ todayIn (s .season) (st .past) d) where
+module _ (s : Setup) (st : State) (d : Day) (slots plots₀ : List ℕ) (ok : stores.Testable s st slots) (t : Today) (is : t ≡ weatherOf (s .season) (st .past) d) where
   abbrev plots : List ℕ
   plots = plotsOf t (s .covers) plots₀
 
@@ -150,7 +150,7 @@ module _ (s : Setup) (st : State) (d : Day) (slots plots₀ : List ℕ) (ok : st
       ∙ sym (fail-single (single (follows (st .past .last) (d .serial)) serialGap ∷ stores.ninth s st ∷ stores.tenth s st read ∷ []) _ dayRecord day))
 
 -- all ten, with the lengths of the stores and results
-module _ (s : Setup) (more : List ℕ) (st : State) (d : Day) (slots₀ ways₀ plots₀ : List ℕ) (r : Tested) (is : todayAs (r .today) ≡ todayIn (s .season) (st .past) d)
+module _ (s : Setup) (more : List ℕ) (st : State) (d : Day) (slots₀ ways₀ plots₀ : List ℕ) (r : Tested) (is : todayAs (r .today) ≡ weatherOf (s .season) (st .past) d)
     (slots ways order plots : List ℕ) where
   -- refused by some of them, where that refuses all
   refuse : (v : Verdict) → r .verdict ≡ verdictIn v → (r .verdict ≡ Accepted → ⊥) → ((why : Refusal) → v ≡ refused why → verdict (allTests s more st d) ≡ refused why)

@@ -8,9 +8,9 @@ use Rattle.theory.specs.Lists.{made}
 use Rattle.paper.specs.Limits.{mostGross, mostPotential, mostSnow}
 use Rattle.paper.specs.CellDay.{Today, Figures}
 use Rattle.paper.specs.Flow.{arriving, water}
-use Rattle.survey.specs.Routes.{nextIn, WaysIn, OrderedBy}
+use Rattle.survey.specs.Charts.{nextAs, WaysFit, OrderedBy}
 use Rattle.recharge.specs.Depths.{meltLimit}
-use Rattle.covers.specs.Plots.{Plot, plotIn}
+use Rattle.covers.specs.Plots.{Plot, plotBy}
 use Rattle.recharge.specs.CellDay.{ownBy, passedBy, figuresBy, goneBy, PlotFits, CellReady}
 use Rattle.records.specs.Answers.{totalsAs}
 use Rattle.recharge.specs.Totals.{totalsBy}
@@ -18,7 +18,7 @@ use Rattle.records.specs.declared.answers.Totals.{Totals}
 
 -- the plot of cell i
 unfoldable pub plotOfCell : List ℕ → List ℕ → List ℕ → ℕ → Plot
-plotOfCell plots slots available i = plotIn plots (getD slots i 0) (getD available i 0)
+plotOfCell plots slots available i = plotBy plots (getD slots i 0) (getD available i 0)
 
 -- what it passes on of water w, and its own water
 unfoldable pub passedAt : List ℕ → List ℕ → List ℕ → List ℕ → ℕ → ℕ → ℕ
@@ -31,8 +31,8 @@ ownAt t plots slots available snow i = ownBy t (plotOfCell plots slots available
 module _ (t : Today) (plots slots ways available soil snow : List ℕ) where
   unfoldable pub inflowAt : ℕ → ℕ
   inflowAt =
-      arriving (length available) (nextIn (length available) ways) (passedAt plots slots ways available)
-      (water (length available) (nextIn (length available) ways) (passedAt plots slots ways available) (ownAt t plots slots available snow))
+      arriving (length available) (nextAs (length available) ways) (passedAt plots slots ways available)
+      (water (length available) (nextAs (length available) ways) (passedAt plots slots ways available) (ownAt t plots slots available snow))
 
   unfoldable pub figuresAt : ℕ → Figures
   figuresAt i = figuresBy t (plotOfCell plots slots available i) (getD ways i 0) (getD soil i 0) (getD snow i 0) (inflowAt i)
@@ -104,8 +104,8 @@ pub record Ready (t : Today) (plots slots ways order available : List ℕ) (s : 
   pub potential : t .potential ≤ mostPotential
   pub melts : t .meltable ≤ meltLimit
   pub slots-sized : length slots ≡ 4096
-  pub pointing : WaysIn (length available) ways
-  pub ordered : OrderedBy (length available) (nextIn (length available) ways) order
+  pub pointing : WaysFit (length available) ways
+  pub ordered : OrderedBy (length available) (nextAs (length available) ways) order
   pub sized : Sized (length available) s
   pub plotted : (i : ℕ) → i < length available → PlotFits (plotOfCell plots slots available i)
   pub held : (i : ℕ) → i < length available → getD (s .soil) i 0 ≤ plotOfCell plots slots available i .capacity

@@ -6,9 +6,9 @@ use Rattle.paper.specs.Setup.{Setup, Grid}
 use Rattle.paper.specs.State.{Past, State, Day, dayFits, follows}
 use Rattle.paper.specs.Refusals.{Test, dayRecord, serialGap, single, verdict, accepted, setupLengths, setupTests, dayTests}
 use Rattle.records.specs.Verdicts.{verdictIn}
-use Rattle.weather.specs.Today.{todayAs, todayIn}
+use Rattle.weather.specs.Today.{todayAs, weatherOf}
 use Rattle.covers.specs.Plots.{plotsOf}
-use Rattle.survey.specs.Survey.{Mapped}
+use Rattle.survey.specs.Charts.{Mapped}
 use Rattle.stores.specs.States.{stateTests}
 use Rattle.stores.specs.Snowfall.{snowTests}
 use Rattle.recharge.specs.declared.tests.Lengths.{Lengths}
@@ -34,5 +34,5 @@ allTests s more st d = setupTests s (setupLengths s ++ more) ++ dayTests s st d
 pub record AllTested (s : Setup) (more : List ℕ) (st : State) (d : Day) (slots₀ ways₀ plots₀ : List ℕ) (r : Tested) (slots ways order plots : List ℕ) : Type 0 where
   pub verdict-is : r .verdict ≡ verdictIn (verdict (allTests s more st d))
   pub mapped : verdict (allTests s more st d) ≡ accepted → Mapped s slots₀ ways₀ slots ways order
-  pub weather : todayAs (r .today) ≡ todayIn (s .season) (st .past) d
+  pub weather : todayAs (r .today) ≡ weatherOf (s .season) (st .past) d
   pub plotted : verdict (allTests s more st d) ≡ accepted → plots ≡ plotsOf (todayAs (r .today)) (s .covers) plots₀

@@ -14,11 +14,11 @@ use crate::ways::Way;
 use crate::ways::gone_from;
 use crate::ways::hand_on;
 use covers::PLOT_ROOM;
-use covers::small_place;
+use covers::small_index;
 use records::MOST_CELLS;
 use records::Totals;
 use records::depth;
-use records::place;
+use records::index_of;
 use weather::Today;
 
 // The figures of one cell, by all that is lent, which is only read here.
@@ -38,7 +38,7 @@ fn day_at(
     ensures { λ r. ⌜ figuresAs r ≡ dayAt (todayAs today) (now (plots .entry)) (now (slots .entry)) (now (available .entry)) (now (soil .entry)) (now (snow .entry))
         (now (arrived .entry)) (way .0) cell ⌝ }
 {
-    let plot = plot_at(plots, small_place(slots[cell]), available[cell]);
+    let plot = plot_at(plots, small_index(slots[cell]), available[cell]);
     cell_day(
         f,
         today,
@@ -79,7 +79,7 @@ pub(crate) fn downhill(
     let mut totals = Totals::none();
     let mut turn = 0;
     while turn < n {
-        let cell = place(order[turn]);
+        let cell = index_of(order[turn]);
         let way = Way(ways[cell]);
         let day = day_at(
             &f,

@@ -1,7 +1,7 @@
 // What the rules read of one cell's ground on a day: the numbers of its slot, and its capacity.
 ghost use mathlib.Core.Path.{_≡_};
 ghost use Prim.Native.Nat.{_*_, _<_};
-ghost use Rattle.covers.specs.Plots.{plotAt, plotIn};
+ghost use Rattle.covers.specs.Plots.{plotAt, plotBy};
 ghost use Rattle.recharge.specs.Plots.{plotAs};
 use covers::CURVE_NUMBER;
 use covers::INTERCEPTED;
@@ -41,7 +41,7 @@ fn capacity(available: u32, roots: u32) -> Depth
 
 pub(crate) fn plot_at(plots: &[u32; PLOT_ROOM], slot: usize, available: u32) -> Plot
     requires { ⌜ slot < 256 ⌝ }
-    ensures { λ r. ⌜ plotAs r ≡ plotIn (now (plots .entry)) slot available ⌝ }
+    ensures { λ r. ⌜ plotAs r ≡ plotBy (now (plots .entry)) slot available ⌝ }
 {
     let curve = number_at(plots, slot, CURVE_NUMBER);
     Plot {

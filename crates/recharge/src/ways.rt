@@ -7,7 +7,7 @@ ghost use Rattle.theory.specs.Sums.{given};
 ghost use Rattle.recharge.specs.CellDay.{goneBy};
 ghost use Rattle.recharge.specs.Depths.{past32};
 use records::MOST_CELLS;
-use records::place;
+use records::index_of;
 use survey::CLOSED;
 use survey::OPEN_WATER;
 use survey::OVER_THE_EDGE;
@@ -40,7 +40,7 @@ pub(crate) fn hand_on(n: usize, way: Way, handed: u32, arrived: &mut [u32; MOST_
     requires { ⌜ (n ≤ 4096) × (way .0 < n → getD (now arrived) (way .0) 0 + handed < past32) ⌝ }
     ensures { λ r. ⌜ now (arrived .exit) ≡ addedAt n (way .0) handed (now (arrived .entry)) ⌝ }
 {
-    let j = place(way.0);
+    let j = index_of(way.0);
     if j < n {
         arrived[j] += handed;
     }

@@ -1,8 +1,8 @@
 // The grid and the growing season, with their limits: tests 1 and 6.
 ghost use mathlib.Core.Path.{_≡_};
-ghost use Rattle.paper.specs.Setup.{cellsIn, gridFits, seasonFits, growing};
+ghost use Rattle.paper.specs.Setup.{cellsOf, gridFits, seasonFits, growing};
 ghost use Rattle.records.specs.Grids.{gridAs, seasonAs};
-use crate::lent::place;
+use crate::lent::index_of;
 
 pub struct Grid {
     pub width: u32,
@@ -19,11 +19,11 @@ pub const MOST_CELLS: usize = 4096;
 
 impl Grid {
     pub fn cells(self) -> usize
-        ensures { λ r. ⌜ r ≡ cellsIn (gridAs self) ⌝ }
+        ensures { λ r. ⌜ r ≡ cellsOf (gridAs self) ⌝ }
     {
         let width = self.width;
         let height = self.height;
-        place(width) * place(height)
+        index_of(width) * index_of(height)
     }
 
     pub fn fits(self) -> bool

@@ -4,7 +4,7 @@ ghost use mathlib.Core.Path.{_≡_};
 ghost use Rattle.paper.specs.Refusals.{oneEach};
 use crate::quantities::Depth;
 
-pub fn place(cell: u32) -> usize
+pub fn index_of(cell: u32) -> usize
     ensures { λ r. ⌜ r ≡ cell ⌝ }
 {
     cell as usize

@@ -16,7 +16,7 @@ pub use grids::Grid;
 pub use grids::MOST_CELLS;
 pub use grids::Season;
 pub use lent::depth;
-pub use lent::place;
+pub use lent::index_of;
 pub use lent::results_each;
 pub use lent::setup_each;
 pub use lent::stores_each;

@@ -19,8 +19,7 @@ use Rattle.records.specs.Verdicts.{refusalIn, verdictIn, verdictAs}
 use Rattle.covers.specs.Slots.{groupNumberAt, cellFrom, mostCapacity}
 use Rattle.covers.proofs.SlotLaws.{soil-most, root-at, root-most}
 use Rattle.covers.proofs.TableLaws.{count-limit}
-use Rattle.survey.specs.Cells.{SlotsFit}
-use Rattle.survey.specs.Survey.{Mapped}
+use Rattle.survey.specs.Charts.{SlotsFit, Mapped}
 use Rattle.stores.specs.Fresh.{Filled}
 use Rattle.records.specs.declared.verdicts.Verdict as code
 use Rattle.records.specs.declared.verdicts.Verdict.the-variants.{Accepted, Refused}

@@ -12,10 +12,10 @@ use Rattle.records.specs.Verdicts.{verdictIn}
 use Rattle.records.specs.declared.verdicts.Verdict.the-variants.{Accepted, Refused}
 use Rattle.records.specs.declared.verdicts.Refusal.the-variants.{Snowfall}
 use Rattle.records.proofs.PlaceLaws.{PassedTo}
-use Rattle.stores.specs.Snowfall.{deepIn, snowTests}
+use Rattle.stores.specs.Snowfall.{deepBy, snowTests}
 
-module _ (plots slots snow : List ℕ) (i : ℕ) (passed : PassedTo (deepIn plots slots snow) i) where
-  pub deep-found : i < min (length snow) 4096 → deepIn plots slots snow i ≡ true
+module _ (plots slots snow : List ℕ) (i : ℕ) (passed : PassedTo (deepBy plots slots snow) i) where
+  pub deep-found : i < min (length snow) 4096 → deepBy plots slots snow i ≡ true
       → Refused (Snowfall i) ≡ verdictIn (verdict (snowTests plots slots snow))
   unfolding snowTests
   deep-found h t = sym (ap verdictIn (fail-many [] _ i (at-lowest _ _ i h t passed)))

@@ -13,7 +13,7 @@ use Rattle.theory.specs.Lowest.{Found, at, nowhere, orAt, lowest}
 use Rattle.theory.proofs.Cases.{cond-true, cond-false, and-left, and-right}
 use Rattle.theory.proofs.LowestLaws.{lowest-cong}
 use Rattle.paper.specs.Limits.{mostSnow}
-use Rattle.paper.specs.Setup.{Grid, cellsIn, gridFits}
+use Rattle.paper.specs.Setup.{Grid, cellsOf, gridFits}
 use Rattle.paper.specs.State.{Past, mostSnowOf, pastFits}
 use Rattle.paper.specs.Refusals.{grid, lent, stateAt, accepted, refused, verdict, oneEach}
 use Rattle.paper.proofs.RefusalLaws.{pass-single, fail-single, pass-many, fail-many}
@@ -27,7 +27,7 @@ unfolding storesFrom mostSnowOf cellFrom
 stores-limits covers roots e slot available soil snow h =
     rw (root-at covers roots slot e h, soil-most covers slot available 0) refl
 
-pub few-cells : (g : Grid) → gridFits g ≡ true → cellsIn g ≤ 4096
+pub few-cells : (g : Grid) → gridFits g ≡ true → cellsOf g ≤ 4096
 unfolding gridFits
 few-cells g e = leb-true _ _ (search (and-left, and-right))
 
@@ -45,39 +45,39 @@ module _ (g : Grid) (covers slots available soil snow : List ℕ) (past : Past) 
   grid-bad e = fail-single _ _ grid e
 
   module _ (fits : gridFits g ≡ true) where
-    pub lent-bad : oneEach (cellsIn g) tests ≡ false → verdict (stateTests g covers slots available soil snow past) ≡ refused lent
+    pub lent-bad : oneEach (cellsOf g) tests ≡ false → verdict (stateTests g covers slots available soil snow past) ≡ refused lent
     unfolding stateTests lentTests
     lent-bad e = pass-single _ _ grid fits ∙ fail-single _ _ lent e
 
-    module _ (each : oneEach (cellsIn g) tests ≡ true) where
+    module _ (each : oneEach (cellsOf g) tests ≡ true) where
       pub test-nine : verdict (stateTests g covers slots available soil snow past) ≡ verdict (stateTest g covers slots available soil snow past ∷ [])
       unfolding stateTests lentTests
       test-nine = pass-single _ _ grid fits ∙ pass-single _ _ lent each
 
       -- the cells first, then the past
-      state-search : lowest (suc (cellsIn g)) (stateTest g covers slots available soil snow past .fails)
-          ≡ orAt (lowest (cellsIn g) (λ i. not (storesAt covers slots available soil snow i))) (cellsIn g) (not (pastFits past))
+      state-search : lowest (suc (cellsOf g)) (stateTest g covers slots available soil snow past .fails)
+          ≡ orAt (lowest (cellsOf g) (λ i. not (storesAt covers slots available soil snow i))) (cellsOf g) (not (pastFits past))
       unfolding lowest
       state-search =
-          ap (λ (f : Found). orAt f (cellsIn g) (stateTest g covers slots available soil snow past .fails (cellsIn g)))
-          (lowest-cong (cellsIn g) _ _ (λ i h. ap not (cond-true (ltb i (cellsIn g)) (lt-ltb i (cellsIn g) h) _ _)))
-          ∙ ap (λ (b : Bool). orAt (lowest (cellsIn g) (λ i. not (storesAt covers slots available soil snow i))) (cellsIn g) (not b))
-          (cond-false (ltb (cellsIn g) (cellsIn g)) (le-ltb (cellsIn g) (cellsIn g) (le-refl (cellsIn g))) _ _)
+          ap (λ (f : Found). orAt f (cellsOf g) (stateTest g covers slots available soil snow past .fails (cellsOf g)))
+          (lowest-cong (cellsOf g) _ _ (λ i h. ap not (cond-true (ltb i (cellsOf g)) (lt-ltb i (cellsOf g) h) _ _)))
+          ∙ ap (λ (b : Bool). orAt (lowest (cellsOf g) (λ i. not (storesAt covers slots available soil snow i))) (cellsOf g) (not b))
+          (cond-false (ltb (cellsOf g) (cellsOf g)) (le-ltb (cellsOf g) (cellsOf g) (le-refl (cellsOf g))) _ _)
 
       pub store-bad : (i : ℕ) → lowest (length available) (λ k. not (storesAt covers slots available soil snow k)) ≡ at i
           → verdict (stateTests g covers slots available soil snow past) ≡ refused (stateAt i)
       unfolding orAt
       store-bad i found =
-          let all : length available ≡ cellsIn g = three-each _ _ _ _ each .0 in
+          let all : length available ≡ cellsOf g = three-each _ _ _ _ each .0 in
           test-nine ∙ fail-many [] (stateTest g covers slots available soil snow past) i (state-search ∙ rw (rw all at found) refl)
 
       module _ (stores : lowest (length available) (λ k. not (storesAt covers slots available soil snow k)) ≡ nowhere) where
-        none : lowest (cellsIn g) (λ k. not (storesAt covers slots available soil snow k)) ≡ nowhere
-        none = let all : length available ≡ cellsIn g = three-each _ _ _ _ each .0 in rw all at stores
+        none : lowest (cellsOf g) (λ k. not (storesAt covers slots available soil snow k)) ≡ nowhere
+        none = let all : length available ≡ cellsOf g = three-each _ _ _ _ each .0 in rw all at stores
 
-        pub past-bad : pastFits past ≡ false → verdict (stateTests g covers slots available soil snow past) ≡ refused (stateAt (cellsIn g))
+        pub past-bad : pastFits past ≡ false → verdict (stateTests g covers slots available soil snow past) ≡ refused (stateAt (cellsOf g))
         unfolding orAt
-        past-bad e = test-nine ∙ fail-many [] (stateTest g covers slots available soil snow past) (cellsIn g) (state-search ∙ rw (none, e) refl)
+        past-bad e = test-nine ∙ fail-many [] (stateTest g covers slots available soil snow past) (cellsOf g) (state-search ∙ rw (none, e) refl)
 
         pub state-good : pastFits past ≡ true → verdict (stateTests g covers slots available soil snow past) ≡ accepted
         unfolding orAt verdict

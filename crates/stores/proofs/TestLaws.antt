@@ -25,11 +25,11 @@ use Rattle.paper.proofs.SetupLaws.{Charted}
 use Rattle.paper.proofs.RefusalLaws.{Passes, testAt, accepted-passes}
 use Rattle.covers.specs.Table.{EntriesFit}
 use Rattle.covers.specs.Slots.{openAt, seasonAt, cellFrom}
-use Rattle.survey.specs.Cells.{slotOf, SlotsFit}
+use Rattle.survey.specs.Charts.{slotOf, SlotsFit}
 use Rattle.survey.proofs.CellLaws.{cell-is}
 use Rattle.survey.proofs.MapLaws.{sound-setup, waters-each, slot-at, slots-fit}
 use Rattle.stores.specs.States.{storesFrom, storesAt, stateTests}
-use Rattle.stores.specs.Snowfall.{Falls, fallIn, deepIn, snowTests}
+use Rattle.stores.specs.Snowfall.{Falls, fallBy, deepBy, snowTests}
 use Rattle.stores.proofs.StateLaws.{test-nine}
 
 -- a setup that passed tests 1 to 6, with its slots, over whatever the array held, and a store an entry a cell
@@ -138,12 +138,12 @@ module _ (s : Setup) (st : State) (slots : List ℕ) (ok : Testable s st slots) 
     -- and so is test 10, where the array has the day's snowfalls and test 9 passed
     pub snow-paper : (plots : List ℕ) (t : Today) → Falls (s .covers) plots t
         → verdict (snowTests plots slots (st .snow)) ≡ verdict (tenth s st t ∷ [])
-    unfolding snowTests deepIn
+    unfolding snowTests deepBy
     snow-paper plots t falls =
         let few : cells s ≤ 4096 = charted .few in
         let all : min (length (st .snow)) 4096 ≡ cells s = omega (arith, ok .snows) in
-        ap (λ (n : ℕ). verdict (record { places = n; fails = deepIn plots slots (st .snow); called = snowfall } ∷ [])) all
+        ap (λ (n : ℕ). verdict (record { places = n; fails = deepBy plots slots (st .snow); called = snowfall } ∷ [])) all
         ∙ alike (cells s) _ _ snowfall
-        (λ i h. deep-any (s .covers) (getD slots i 0) (getD (s .available) i 0) (next s i) t (fallIn plots (getD slots i 0)) (snowAt st i)
+        (λ i h. deep-any (s .covers) (getD slots i 0) (getD (s .available) i 0) (next s i) t (fallBy plots (getD slots i 0)) (snowAt st i)
         (falls .each (getD slots i 0) (slotted .slotted i h)) (lying i h)
         ∙ ap (λ (c : Cell). tooDeep c t (snowAt st i)) (cell-of i h))

@@ -13,19 +13,19 @@ use Rattle.paper.specs.CellDay.{Today}
 use Rattle.paper.specs.Refusals.{Test, snowfall}
 use Rattle.covers.specs.Slots.{openAt, seasonAt}
 
-abbrev pub fallIn : List ℕ → ℕ → ℕ
-fallIn plots slot = getD plots (6 * slot + 2) 0
+abbrev pub fallBy : List ℕ → ℕ → ℕ
+fallBy plots slot = getD plots (6 * slot + 2) 0
 
 -- the snowfall would take cell i's store past its limit
-unfoldable pub deepIn : List ℕ → List ℕ → List ℕ → ℕ → Bool
-deepIn plots slots snow i = ltb mostSnow (getD snow i 0 + fallIn plots (getD slots i 0))
+unfoldable pub deepBy : List ℕ → List ℕ → List ℕ → ℕ → Bool
+deepBy plots slots snow i = ltb mostSnow (getD snow i 0 + fallBy plots (getD slots i 0))
 
 -- of at most 4,096 stores: there are no slots for more
 unfoldable pub snowTests : List ℕ → List ℕ → List ℕ → List Test
 snowTests plots slots snow =
-    record { places = min (length snow) mostCells; fails = deepIn plots slots snow; called = snowfall } ∷ []
+    record { places = min (length snow) mostCells; fails = deepBy plots slots snow; called = snowfall } ∷ []
 
 -- the array has the day's snowfall of each slot of the table, which is 0 on open water
 pub record Falls (covers plots : List ℕ) (t : Today) : Type 0 where
   pub each : (slot : ℕ) → slot < 4 * entries covers
-      → fallIn plots slot ≡ cond (openAt covers slot) 0 (given (t .snows?) (net (t .gross) (seasonAt covers slot (t .growing?))))
+      → fallBy plots slot ≡ cond (openAt covers slot) 0 (given (t .snows?) (net (t .gross) (seasonAt covers slot (t .growing?))))

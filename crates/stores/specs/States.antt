@@ -4,7 +4,7 @@ use mathlib.Core.List.{List, [], _∷_, _++_}
 use Prim.Native.Nat.{ℕ, suc}
 use lib.Dec.{leb, ltb}
 use lib.ListN.{length, getD}
-use Rattle.paper.specs.Setup.{Grid, cellsIn, gridFits}
+use Rattle.paper.specs.Setup.{Grid, cellsOf, gridFits}
 use Rattle.paper.specs.State.{Past, mostSoilOf, mostSnowOf, pastFits}
 use Rattle.paper.specs.Refusals.{Test, single, grid, lent, stateAt, oneEach}
 use Rattle.covers.specs.Slots.{cellFrom}
@@ -19,14 +19,14 @@ storesAt covers slots available soil snow i = storesFrom covers (getD slots i 0)
 
 -- tests 1 and 2 of some of the lent slices
 unfoldable pub lentTests : Grid → List ℕ → List Test
-lentTests g lengths = single (gridFits g) grid ∷ single (oneEach (cellsIn g) lengths) lent ∷ []
+lentTests g lengths = single (gridFits g) grid ∷ single (oneEach (cellsOf g) lengths) lent ∷ []
 
 -- each cell's stores, then the past at the cell count
 abbrev pub stateTest : Grid → List ℕ → List ℕ → List ℕ → List ℕ → List ℕ → Past → Test
 stateTest g covers slots available soil snow past =
     record {
-      places = suc (cellsIn g);
-      fails = λ i. not (cond (ltb i (cellsIn g)) (storesAt covers slots available soil snow i) (pastFits past));
+      places = suc (cellsOf g);
+      fails = λ i. not (cond (ltb i (cellsOf g)) (storesAt covers slots available soil snow i) (pastFits past));
       called = stateAt;
     }
 

@@ -6,10 +6,10 @@ ghost use Rattle.paper.specs.Day.{freshOf};
 ghost use Rattle.records.specs.Answers.{freshAs};
 ghost use Rattle.records.specs.Grids.{setupAs};
 ghost use Rattle.records.specs.Past.{pastAs};
-ghost use Rattle.survey.specs.Cells.{SlotsFit};
+ghost use Rattle.survey.specs.Charts.{SlotsFit};
 ghost use Rattle.stores.specs.Fresh.{Filled};
 use covers::root_depths;
-use covers::small_place;
+use covers::small_index;
 use records::Grid;
 use records::MOST_CELLS;
 use records::Past;
@@ -43,7 +43,7 @@ fn fill(
     let roots = root_depths(covers);
     let mut i = 0;
     while i < available.len() {
-        soil[i] = available[i] * roots[small_place(slots[i])];
+        soil[i] = available[i] * roots[small_index(slots[i])];
         snow[i] = 0;
         i += 1;
     }

@@ -5,21 +5,21 @@ ghost use lib.Dec.{ltb};
 ghost use Rattle.paper.specs.Limits.{mostSnow};
 ghost use Rattle.paper.specs.Refusals.{verdict};
 ghost use Rattle.records.specs.Verdicts.{verdictIn};
-ghost use Rattle.stores.specs.Snowfall.{fallIn, snowTests};
+ghost use Rattle.stores.specs.Snowfall.{fallBy, snowTests};
 use crate::states::within_32;
 use covers::PLOT_NUMBERS;
 use covers::PLOT_ROOM;
 use covers::SNOWFALL;
-use covers::small_place;
+use covers::small_index;
 use records::Depth;
 use records::MOST_CELLS;
 use records::Refusal;
 use records::Verdict;
 
 fn is_deep(plots: &[u32; PLOT_ROOM], slot: u8, snow: u32) -> bool
-    ensures { λ r. ⌜ r ≡ ltb mostSnow (snow + fallIn (now (plots .entry)) slot) ⌝ }
+    ensures { λ r. ⌜ r ≡ ltb mostSnow (snow + fallBy (now (plots .entry)) slot) ⌝ }
 {
-    let at = small_place(slot);
+    let at = small_index(slot);
     Depth::MOST_SNOW.0 < within_32(snow) + within_32(plots[PLOT_NUMBERS * at + SNOWFALL])
 }
 

@@ -17,7 +17,7 @@ ghost use Rattle.stores.specs.States.{storesFrom, storesAt, stateTests};
 use covers::MOST_SLOTS;
 use covers::is_open;
 use covers::root_depths;
-use covers::small_place;
+use covers::small_index;
 use records::Depth;
 use records::Grid;
 use records::MOST_CELLS;
@@ -60,7 +60,7 @@ fn stores_fit(
     requires { ⌜ now roots ≡ made 256 (groupNumberAt (now covers) 11) ⌝ }
     ensures { λ r. ⌜ r ≡ storesFrom (now (covers .entry)) slot available soil snow ⌝ }
 {
-    let at = small_place(slot);
+    let at = small_index(slot);
     (wide(soil) <= within_32(available) * within_32(roots[at])) & snow_fits(covers, at, snow)
 }
 

@@ -15,7 +15,7 @@ use Rattle.records.specs.Verdicts.{refusalIn, verdictIn}
 use Rattle.records.specs.declared.verdicts.Verdict as code
 use Rattle.records.specs.declared.verdicts.Verdict.the-variants.{Accepted, Refused}
 use Rattle.records.proofs.VerdictLaws.{accepted-back}
-use Rattle.survey.specs.Survey.{Wiped, Surveyable, Chart, Surveyed}
+use Rattle.survey.specs.Charts.{Wiped, Surveyable, Chart, Surveyed}
 
 both : (b : Bool) → (b && true) ≡ b
 both true = refl

@@ -13,7 +13,8 @@ use Rattle.paper.specs.Directions.{Goes, openWater, wayOf, goesBy}
 use Rattle.paper.specs.Setup.{Setup, cell, cells, entryOf, groupOf, availableOf, cellFits, isOpen, goes, pointed, next}
 use Rattle.paper.proofs.SetupLaws.{Charted, entry-in, closed-by}
 use Rattle.covers.specs.Slots.{cellFrom}
-use Rattle.survey.specs.Cells.{slotOf, wayAt}
+use Rattle.survey.specs.Charts.{slotOf}
+use Rattle.survey.specs.Cells.{wayAt}
 
 module _ (s : Setup) (ok : Charted s) (i : ℕ) (h : i < cells s) where
   group-within : (1 ≤ groupOf s i) × (groupOf s i ≤ 4)

@@ -14,27 +14,27 @@ use Rattle.theory.specs.Ways.{OneWay}
 use Rattle.theory.proofs.Cases.{byCases, below-or-not}
 use Rattle.theory.proofs.ListLaws.{over-length}
 use Rattle.theory.proofs.SumLaws.{sum-cong, sum-most, given-most}
-use Rattle.survey.specs.Routes.{nextIn, WaysIn}
-use Rattle.survey.specs.Peeling.{leading, waits, queued, waitFor, Counted, Blank}
+use Rattle.survey.specs.Charts.{nextAs, WaysFit}
+use Rattle.survey.specs.Order.{leading, waits, queued, waitFor, Counted, Blank}
 use Rattle.theory.proofs.ListLaws.{over-at, in-range}
 use Rattle.theory.proofs.SumLaws.{one-more, no-places}
 use Rattle.survey.proofs.OrderLaws.{leads, elsewhere}
 
-module _ {n : ℕ} {ways : List ℕ} (w : WaysIn n ways) where
-  pub way-next : (i : ℕ) → i < n → getD ways i 0 ≡ nextIn n ways i
-  unfolding nextIn
+module _ {n : ℕ} {ways : List ℕ} (w : WaysFit n ways) where
+  pub way-next : (i : ℕ) → i < n → getD ways i 0 ≡ nextAs n ways i
+  unfolding nextAs
   way-next i h = rw (lt-ltb i n h) (in-range ways i 0 4097 (omega (arith, w .most, w .sized)))
 
-  pub one-way : OneWay n (nextIn n ways)
-  unfolding nextIn
+  pub one-way : OneWay n (nextAs n ways)
+  unfolding nextAs
   one-way = record { outside = λ i h. rw (le-ltb i n h) (omega (arith, w .most)) }
 
 -- the ways written over an array are the rule's, where the rule too leads nowhere past the cells: what the array held there is never read
-pub ways-next : (n : ℕ) (f : ℕ → ℕ) (before : List ℕ) → ((i : ℕ) → n ≤ i → f i ≡ 4097) → nextIn n (madeOver n f before) ≡ f
-unfolding nextIn
+pub ways-next : (n : ℕ) (f : ℕ → ℕ) (before : List ℕ) → ((i : ℕ) → n ≤ i → f i ≡ 4097) → nextAs n (madeOver n f before) ≡ f
+unfolding nextAs
 ways-next n f before none = λ k i. points i k
   where
-    points : (i : ℕ) → nextIn n (madeOver n f before) i ≡ f i
+    points : (i : ℕ) → nextAs n (madeOver n f before) i ≡ f i
     points i = below-or-not i n (λ h. rw (lt-ltb i n h) (over-at n f before 4097 i h)) (λ h. rw (le-ltb i n h) (sym (none i h)))
 
 module _ {n : ℕ} {next : ℕ → ℕ} where

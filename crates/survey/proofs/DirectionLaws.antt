@@ -10,7 +10,7 @@ use borrow.Author.Tests.{lt-ltb, le-ltb, ne-eqb}
 use Rattle.theory.specs.Lowest.{Found, at, nowhere}
 use Rattle.paper.specs.Directions.{Way, toward, closed, wayOf, stepped, cellAt, goesBy}
 use Rattle.paper.specs.Setup.{pointed}
-use Rattle.survey.specs.Routes.{stepOf, goesFrom}
+use Rattle.survey.specs.Ways.{stepOf, goesFrom}
 
 pub near-edge : (size k d : ℕ) → k + d ≡ 0 → stepped size (stepOf d) k ≡ nowhere
 unfolding stepped stepOf

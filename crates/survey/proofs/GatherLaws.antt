@@ -13,7 +13,7 @@ use lib.Seq.{getD-set-same, getD-set-other}
 use borrow.Author.Tests.{eqb-true, eqb-false}
 use Rattle.theory.specs.Lowest.{at}
 use Rattle.theory.proofs.Cases.{byCases}
-use Rattle.survey.specs.Peeling.{waits, queued, Blank, Gathered, GatheredIn}
+use Rattle.survey.specs.Order.{waits, queued, Blank, Gathered, GatheredHeld}
 
 -- a cell put where none stands
 module _ (l : List ℕ) (t v : ℕ) (small : v < 8192) (bare : queued l t ≡ 0) (h : t < length l) where
@@ -55,7 +55,7 @@ module _ (l : List ℕ) (j : ℕ) (some : 8192 ≤ getD l j 0) (h : j < length l
       (λ p. subst (λ (x : ℕ). getD less x 0 % 8192 ≡ getD l x 0 % 8192) (eqb-true j t p) (rw (getD-set-same l j (getD l j 0 - 8192) 0 h) (omega arith)))
       (λ p. ap (λ (x : ℕ). x % 8192) (getD-set-other l j t (getD l j 0 - 8192) 0 (λ s. eqb-false j t p (sym s))))
 
-pub gather-none : {n : ℕ} {l : List ℕ} → Blank n l → GatheredIn n (waits l) 0 0 l
+pub gather-none : {n : ℕ} {l : List ℕ} → Blank n l → GatheredHeld n (waits l) 0 0 l
 gather-none b =
     record {
       sized = b .sized;
@@ -70,14 +70,14 @@ gather-none b =
       blank = λ t a h. b .blank t h;
     }
 
-module _ {n : ℕ} {counts : ℕ → ℕ} {k tail : ℕ} {l : List ℕ} (g : GatheredIn n counts k tail l) where
+module _ {n : ℕ} {counts : ℕ → ℕ} {k tail : ℕ} {l : List ℕ} (g : GatheredHeld n counts k tail l) where
   pub gather-fits : k < n → n ≤ 4096 → ((t : ℕ) → t < n → counts t ≤ 4096) → getD l tail 0 + k < 4294967296
   unfolding waits queued
   gather-fits h m f =
       let inside : tail < n = omega (arith, g .queue .short) in
       omega (arith, g .blank tail (le-refl tail) inside, g .queue .left tail inside, f tail inside)
 
-  pub gather-skip : 8192 ≤ getD l k 0 → GatheredIn n counts (k + 1) tail l
+  pub gather-skip : 8192 ≤ getD l k 0 → GatheredHeld n counts (k + 1) tail l
   unfolding waits
   gather-skip h =
       let q = g .queue in
@@ -124,7 +124,7 @@ module _ {n : ℕ} {counts : ℕ → ℕ} {k tail : ℕ} {l : List ℕ} (g : Gat
     cases : {P : ℕ → Type 0} → ((t : ℕ) → t < tail → P t) → P tail → (t : ℕ) → t < tail + 1 → P t
     cases {P} old this t a = ⊎-elim (λ e. subst P (sym e) this) (old t) (eq-or-lt-of-le (le-of-suc-le-suc (rw add-one at a)))
 
-    pub gather-put : GatheredIn n counts (k + 1) (tail + 1) l′
+    pub gather-put : GatheredHeld n counts (k + 1) (tail + 1) l′
     gather-put =
         record {
           sized = length-set l tail (getD l tail 0 + k) ∙ g .sized;

@@ -22,7 +22,7 @@ use Rattle.paper.specs.Directions.{Goes, wayOf, goesBy}
 use Rattle.paper.specs.Setup.{pointed}
 use Rattle.records.specs.Places.{placeIn}
 use Rattle.records.specs.declared.places.Place.the-variants.{At, Nowhere}
-use Rattle.survey.specs.Peeling.{Counted, waitFor}
+use Rattle.survey.specs.Order.{Counted, waitFor}
 use Rattle.survey.specs.Cells.{wayFrom, wayAt, LaidOrBad}
 use Rattle.survey.proofs.DirectionLaws.{goes-at}
 use Rattle.records.proofs.PlaceLaws.{PassedTo}

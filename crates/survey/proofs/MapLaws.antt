@@ -11,7 +11,7 @@ use Rattle.paper.specs.Setup.{Setup, cells, cellFits}
 use Rattle.paper.specs.Refusals.{accepted, oneEach, setupLengths}
 use Rattle.paper.specs.Day.{checkOf}
 use Rattle.paper.proofs.SetupLaws.{Charted, Sound, sound}
-use Rattle.survey.specs.Cells.{slotOf, SlotsFit}
+use Rattle.survey.specs.Charts.{slotOf, SlotsFit}
 use Rattle.survey.proofs.CellLaws.{slot-limit}
 use Rattle.theory.proofs.ListLaws.{over-at}
 

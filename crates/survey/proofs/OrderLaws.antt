@@ -13,7 +13,7 @@ use Rattle.theory.specs.Sums.{sum, given}
 use Rattle.theory.proofs.Cases.{byCases}
 use Rattle.theory.proofs.SumLaws.{sum-cong, sum-add, sum-same, sum-part, sum-pick}
 use Rattle.theory.proofs.GivenLaws.{given-true}
-use Rattle.survey.specs.Peeling.{leading, Gathered, Queue}
+use Rattle.survey.specs.Order.{leading, Gathered, Queue}
 use Rattle.theory.proofs.SumsAlong.{sum-extend}
 
 pub leads : (next : ℕ → ℕ) (i j : ℕ) → next j ≡ i → leading next i j ≡ 1

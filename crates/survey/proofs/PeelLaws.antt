@@ -21,8 +21,8 @@ use Rattle.theory.proofs.LowestLaws.{lowest-cong, lowest-none, none-lowest}
 use Rattle.records.specs.declared.places.Place.{Place}
 use Rattle.records.specs.declared.places.Place.the-variants.{Nowhere}
 use Rattle.records.specs.Places.{placeIn}
-use Rattle.survey.specs.Routes.{OrderedBy, OrderOrRing}
-use Rattle.survey.specs.Peeling.{leading, waits, queued, Counted, Queue, GatheredIn, QueueIn, ahead, PeeledIn}
+use Rattle.survey.specs.Charts.{OrderedBy}
+use Rattle.survey.specs.Order.{OrderOrRing, leading, waits, queued, Counted, Queue, GatheredHeld, QueueHeld, ahead, PeeledHeld}
 use Rattle.survey.proofs.OrderLaws.{without, without-it, without-other, start, room, waiting, shut, left-behind, still-waiting, new, joins}
 use Rattle.survey.proofs.RingLaws.{leftover-rings, peeled, peeled-who}
 use Rattle.records.proofs.PlaceLaws.{found-no}
@@ -49,8 +49,8 @@ ahead-next head sources t d =
     (λ l. ahead-on head sources t g l ∙ sym (ahead-on (suc head) sources t (omega arith) l))
     (λ l. ahead-past head sources t l ∙ sym (ahead-past (suc head) sources t l)))
 
-pub queue-start : {n : ℕ} {next : ℕ → ℕ} {l l′ : List ℕ} {tail : ℕ} → Counted n next n l → GatheredIn n (waits l) n tail l′
-    → PeeledIn n next 0 tail tail l′
+pub queue-start : {n : ℕ} {next : ℕ → ℕ} {l l′ : List ℕ} {tail : ℕ} → Counted n next n l → GatheredHeld n (waits l) n tail l′
+    → PeeledHeld n next 0 tail tail l′
 queue-start {tail = tail} c g =
     record {
       rest = λ j. true;
@@ -62,7 +62,7 @@ queue-start {tail = tail} c g =
 -- the queue with a cell in hand, which leads to j and is the next to be taken: with it, all is taken but the sources past `head`
 pub record InHand (n : ℕ) (next : ℕ → ℕ) (head sources tail j : ℕ) (l : List ℕ) : Type 0 where
   pub rest : ℕ → Bool
-  pub kept : QueueIn n next rest tail l
+  pub kept : QueueHeld n next rest tail l
   pub behind : sources ≤ tail
   pub cell : ℕ
   pub leads-on : next cell ≡ j
@@ -71,7 +71,7 @@ pub record InHand (n : ℕ) (next : ℕ → ℕ) (head sources tail j : ℕ) (l 
   pub free : waits l cell ≡ 0
   pub still : (t : ℕ) → t < tail → without rest cell (queued l t) ≡ ahead (suc head) sources t
 
-pub hand-source : {n : ℕ} {next : ℕ → ℕ} {head sources tail : ℕ} {l : List ℕ} → PeeledIn n next head sources tail l → head < sources
+pub hand-source : {n : ℕ} {next : ℕ → ℕ} {head sources tail : ℕ} {l : List ℕ} → PeeledHeld n next head sources tail l → head < sources
     → InHand n next head sources tail (next (queued l head)) l
 hand-source {head = head} {sources = sources} {tail = tail} {l = l} p h =
     let q = p .kept .queue in
@@ -106,7 +106,7 @@ module _ {n : ℕ} {next : ℕ → ℕ} {head sources tail j : ℕ} {l : List �
   abbrev less-rest : ℕ → Bool
   less-rest = without (p .rest) cell
 
-  pub hand-outside : n ≤ j → PeeledIn n next (suc head) sources tail l
+  pub hand-outside : n ≤ j → PeeledHeld n next (suc head) sources tail l
   hand-outside o =
       record {
         rest = less-rest;
@@ -147,7 +147,7 @@ module _ {n : ℕ} {next : ℕ → ℕ} {head sources tail j : ℕ} {l : List �
     less-sized : length once-less ≡ 4096
     less-sized = length-set l j (getD l j 0 - 8192) ∙ p .kept .sized
 
-    pub hand-still : 8192 ≤ getD l j 0 - 8192 → PeeledIn n next (suc head) sources tail once-less
+    pub hand-still : 8192 ≤ getD l j 0 - 8192 → PeeledHeld n next (suc head) sources tail once-less
     hand-still w =
         record {
           rest = less-rest;
@@ -243,7 +243,7 @@ module _ {n : ℕ} {next : ℕ → ℕ} {head sources tail j : ℕ} {l : List �
           }
 
 -- with all sources taken: the cells that wait are those on rings, and where none waits the queue is the order
-module _ {n : ℕ} {next : ℕ → ℕ} {sources tail : ℕ} {l : List ℕ} (p : PeeledIn n next sources sources tail l) (out : OneWay n next) where
+module _ {n : ℕ} {next : ℕ → ℕ} {sources tail : ℕ} {l : List ℕ} (p : PeeledHeld n next sources sources tail l) (out : OneWay n next) where
   gone : (t : ℕ) → t < tail → p .rest (queued l t) ≡ false
   gone t h =
       p .still t h ∙ below-or-not t sources (ahead-behind sources sources t) (ahead-past sources sources t)

@@ -16,7 +16,7 @@ use Rattle.theory.proofs.SumLaws.{sum-cong, sum-same, sum-none, sum-cover, give
 use Rattle.theory.proofs.GivenLaws.{given-false}
 use Rattle.theory.proofs.LowestLaws.{some-true, some-false, at-lowest}
 use Rattle.theory.proofs.WayLaws.{ring-back, fed-on-ring}
-use Rattle.survey.specs.Peeling.{leading, Queue}
+use Rattle.survey.specs.Order.{leading, Queue}
 use Rattle.survey.proofs.OrderLaws.{elsewhere}
 
 -- all of the queue is taken

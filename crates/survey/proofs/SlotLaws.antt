@@ -18,34 +18,35 @@ use Rattle.paper.specs.Covers.{codeOf, entries}
 use Rattle.paper.specs.Setup.{Setup, coverOf, groupOf, availableOf, entryOf, placeOr, cellFits}
 use Rattle.covers.specs.Table.{oneMore, EntriesFit, found, indexOf}
 use Rattle.covers.proofs.TableLaws.{code-limit, count-limit}
-use Rattle.survey.specs.Cells.{slotOf, slotIn, slotAt, IndexFits}
+use Rattle.survey.specs.Charts.{slotOf}
+use Rattle.survey.specs.Cells.{slotBy, slotAt, IndexFits}
 
 pub group-in : (group available : ℕ) → (within 1 4 group && leb available mostAvailableWater) ≡ true → (1 ≤ group) × (group ≤ 4)
 group-in group available b = (leb-true _ _ (search (and-left, and-right)), leb-true _ _ (search (and-left, and-right)))
 
 module _ (index : List ℕ) (code group available : ℕ) where
-  pub slot-none : getD index code 0 ≡ 0 → 256 ≡ slotIn index code group available
-  unfolding slotIn
+  pub slot-none : getD index code 0 ≡ 0 → 256 ≡ slotBy index code group available
+  unfolding slotBy
   slot-none e = sym (cond-true (eqb (getD index code 0) 0) (eq-eqb _ _ e) _ _)
 
-  pub slot-past : IndexFits index → 256 ≤ code → 256 ≡ slotIn index code group available
+  pub slot-past : IndexFits index → 256 ≤ code → 256 ≡ slotBy index code group available
   slot-past fits h = slot-none (List·getD-eq-default index 0 {n = code} (rw (fits .sized) h))
 
-  pub slot-bad : (within 1 4 group && leb available mostAvailableWater) ≡ false → 256 ≡ slotIn index code group available
-  unfolding slotIn
+  pub slot-bad : (within 1 4 group && leb available mostAvailableWater) ≡ false → 256 ≡ slotBy index code group available
+  unfolding slotBy
   slot-bad e =
       byCases (eqb (getD index code 0) 0) (λ z. sym (cond-true (eqb (getD index code 0) 0) z _ _))
       (λ z. sym (cond-false (eqb (getD index code 0) 0) z _ _ ∙ cond-false (within 1 4 group && leb available mostAvailableWater) e _ _))
 
   pub slot-good : (getD index code 0 ≡ 0 → ⊥) → (within 1 4 group && leb available mostAvailableWater) ≡ true
-      → 4 * (getD index code 0 - 1) + (group - 1) ≡ slotIn index code group available
-  unfolding slotIn
+      → 4 * (getD index code 0 - 1) + (group - 1) ≡ slotBy index code group available
+  unfolding slotBy
   slot-good some e =
       sym (cond-false (eqb (getD index code 0) 0) (ne-eqb _ _ some) _ _
       ∙ cond-true (within 1 4 group && leb available mostAvailableWater) e _ _)
 
   -- a slot that is one has an entry of the index, and one of the four groups
-  pub slot-below : (slot entries : ℕ) → slot ≡ slotIn index code group available → (slot ≡ 256 → ⊥) → getD index code 0 ≤ entries → slot < 4 * entries
+  pub slot-below : (slot entries : ℕ) → slot ≡ slotBy index code group available → (slot ≡ 256 → ⊥) → getD index code 0 ≤ entries → slot < 4 * entries
   slot-below slot entries e some held =
       byCases (eqb (getD index code 0) 0) (λ z. absurd (some (e ∙ sym (slot-none (eqb-true _ _ z)))))
       (λ z. byCases (within 1 4 group && leb available mostAvailableWater)
@@ -110,7 +111,7 @@ module _ (s : Setup) (index : List ℕ) (fit : EntriesFit (s .covers)) (known : 
   slot-at : (i : ℕ)
       → slotAt index (s .cover) (s .group) (s .available) i
       ≡ slot-by (s .covers) index fit known (lowest (entries (s .covers)) (λ e. eqb (codeOf (s .covers) e) (coverOf s i))) (groupOf s i) (availableOf s i)
-  unfolding slotIn slot-by
+  unfolding slotBy slot-by
   slot-at i = rw (index-at (s .covers) index fit known (coverOf s i)) refl
 
   -- a cell has no slot exactly where test 4 fails it

@@ -13,15 +13,14 @@ use Rattle.theory.specs.Ways.{onRing}
 use Rattle.theory.proofs.ListLaws.{made-cong, over-length}
 use Rattle.theory.proofs.LowestLaws.{lowest-none, lowest-cong}
 use Rattle.paper.specs.Covers.{entries}
-use Rattle.paper.specs.Setup.{Setup, cells, cellsIn, cellFits, seasonFits, next}
+use Rattle.paper.specs.Setup.{Setup, cells, cellsOf, cellFits, seasonFits, next}
 use Rattle.paper.specs.Refusals.{Refusal, Verdict, cellNumbers, ring, season, accepted, refused, Test, verdict, single, coverTest, mapTests}
 use Rattle.paper.proofs.RefusalLaws.{pass-single, fail-single, pass-many, fail-many, accepted-then, refused-then}
 use Rattle.records.proofs.PlaceLaws.{found-at, found-no}
 use Rattle.records.specs.Verdicts.{refusalIn, verdictIn}
-use Rattle.survey.specs.Survey.{Surveyable, Chart}
-use Rattle.survey.specs.Cells.{slotOf, slotAt, wayAt, Layable, LaidOrBad}
-use Rattle.survey.specs.Peeling.{Counted}
-use Rattle.survey.specs.Routes.{nextIn, WaysIn, OrderedBy, OrderOrRing}
+use Rattle.survey.specs.Charts.{Surveyable, Chart, slotOf, nextAs, WaysFit, OrderedBy}
+use Rattle.survey.specs.Order.{Counted, OrderOrRing}
+use Rattle.survey.specs.Cells.{slotAt, wayAt, Layable, LaidOrBad}
 use Rattle.records.specs.declared.verdicts.Verdict.the-variants.{Accepted, Refused}
 use Rattle.paper.proofs.SetupLaws.{Charted, next-past}
 use Rattle.survey.proofs.SlotLaws.{index-fits, index-entered, slot-test, slot-is}
@@ -101,7 +100,7 @@ module _ (s : Setup) (lent ways₀ : List ℕ) (pre : Surveyable s) (table : ver
   way = wayAt (s .grid .width) (s .grid .height) (s .covers) slot (s .direction)
 
   pub lay-ask : Layable (s .grid .width) (s .grid .height) index (s .covers) (s .direction) (s .cover) (s .group) (s .available) lent ways₀
-  unfolding cellsIn
+  unfolding cellsOf
   lay-ask =
       record {
         wide = pre .wide;
@@ -118,7 +117,7 @@ module _ (s : Setup) (lent ways₀ : List ℕ) (pre : Surveyable s) (table : ver
 
   module _ (r : Place) (slots ways counts : List ℕ) (lb : LaidOrBad (s .grid .width * s .grid .height) slot way r lent slots ways₀ ways counts) where
     search-is : r ≡ placeIn (lowest (cells s) (λ i. not (cellFits s i)))
-    unfolding cellsIn
+    unfolding cellsOf
     search-is = lb .lowest-bad ∙ ap placeIn (lowest-cong (cells s) _ _ (λ i h. slot-test s index fit known i))
 
     pub cell-refuses : (i : ℕ) (order : List ℕ) → r ≡ At i → Chart s lent ways₀ (Refused (refusalIn (cellNumbers i))) slots ways order
@@ -143,14 +142,14 @@ module _ (s : Setup) (lent ways₀ : List ℕ) (pre : Surveyable s) (table : ver
       slot-at i h = slot-is s index fit known i (charted .celled i h)
 
       slots-are : slots ≡ madeOver (cells s) (slotOf s) lent
-      unfolding madeOver cellsIn
+      unfolding madeOver cellsOf
       slots-are = lb .slotted through ∙ ap (λ (l : List ℕ). l ++ drop (cells s) lent) (made-cong (cells s) slot (slotOf s) slot-at)
 
       slots-whole : length slots ≡ 4096
       slots-whole = ap length slots-are ∙ over-length (cells s) (slotOf s) lent (omega (arith, slots-sized, pre .few)) ∙ slots-sized
 
       ways-are : ways ≡ madeOver (cells s) (next s) ways₀
-      unfolding madeOver cellsIn
+      unfolding madeOver cellsOf
       ways-are =
           lb .laid through
           ∙ ap (λ (l : List ℕ). l ++ drop (cells s) ways₀) (made-cong (cells s) way (next s) (λ i h. sym (way-is s charted i h slot (slot-at i h))))
@@ -158,17 +157,17 @@ module _ (s : Setup) (lent ways₀ : List ℕ) (pre : Surveyable s) (table : ver
       ways-whole : length ways ≡ 4096
       ways-whole = ap length ways-are ∙ over-length (cells s) (next s) ways₀ (omega (arith, ways-sized, pre .few)) ∙ ways-sized
 
-      ways-point : nextIn (cells s) ways ≡ next s
-      ways-point = ap (nextIn (cells s)) ways-are ∙ ways-next (cells s) (next s) ways₀ (next-past s charted (pre .directions) (pre .covers))
+      ways-point : nextAs (cells s) ways ≡ next s
+      ways-point = ap (nextAs (cells s)) ways-are ∙ ways-next (cells s) (next s) ways₀ (next-past s charted (pre .directions) (pre .covers))
 
-      counts-are : Counted (cells s) (nextIn (cells s) ways) (cells s) counts
-      unfolding cellsIn
+      counts-are : Counted (cells s) (nextAs (cells s) ways) (cells s) counts
+      unfolding cellsOf
       counts-are = rw ways-point (count-by (lb .counted through) (next s) (λ i h. way-is s charted i h slot (slot-at i h)))
 
-      pub order-ask : WaysIn (length (s .direction)) ways × Counted (length (s .direction)) (nextIn (length (s .direction)) ways) (length (s .direction)) counts
+      pub order-ask : WaysFit (length (s .direction)) ways × Counted (length (s .direction)) (nextAs (length (s .direction)) ways) (length (s .direction)) counts
       order-ask = rw (pre .directions) (record { most = pre .few; sized = ways-whole }, counts-are)
 
-      module _ (found : Place) (order : List ℕ) (o : OrderOrRing (length (s .direction)) (nextIn (length (s .direction)) ways) found order) where
+      module _ (found : Place) (order : List ℕ) (o : OrderOrRing (length (s .direction)) (nextAs (length (s .direction)) ways) found order) where
         ring-is : found ≡ placeIn (lowest (cells s) (onRing (cells s) (next s)))
         ring-is = rw (pre .directions, ways-point) at (o .ring)
 

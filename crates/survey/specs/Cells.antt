@@ -1,9 +1,8 @@
--- A cell as the code finds it: by its slot, 4 × the entry of its cover + its group - 1, its available water, and where it points; and the slots that
--- the code finds by the index of the cover table.
+-- How the code finds a cell's slot, by the index of the cover table, and where it points, by its row and column.
 use mathlib.Core.Path.{_≡_}
 use mathlib.Core.Bool.{cond, _&&_}
 use mathlib.Core.List.{List}
-use Prim.Native.Nat.{ℕ, suc, _+_, _*_, _-_, _≤_, _<_}
+use Prim.Native.Nat.{ℕ, suc, _+_, _*_, _-_, _≤_}
 use lib.Dec.{eqb, leb}
 use lib.ListN.{length, getD}
 use Rattle.theory.specs.Lists.{madeOver}
@@ -11,35 +10,22 @@ use Rattle.theory.specs.Lowest.{lowest}
 use Rattle.paper.specs.Limits.{within, mostCells, mostAvailableWater}
 use Rattle.paper.specs.Covers.{entries}
 use Rattle.paper.specs.Directions.{wayOf, goesBy}
-use Rattle.paper.specs.Setup.{Setup, entryOf, groupOf, pointed}
+use Rattle.paper.specs.Setup.{pointed}
 use Rattle.records.specs.Places.{placeIn}
 use Rattle.records.specs.declared.places.Place.{Place}
 use Rattle.records.specs.declared.places.Place.the-variants.{Nowhere}
-use Rattle.covers.specs.Table.{EntriesFit}
 use Rattle.covers.specs.Slots.{openAt}
-use Rattle.survey.specs.Routes.{goesFrom}
-use Rattle.survey.specs.Peeling.{Counted}
-
-abbrev pub slotOf : Setup → ℕ → ℕ
-slotOf s i = 4 * entryOf s i + (groupOf s i - 1)
-
--- a table that fits, and n cells that it has, in an array of slots
-pub record SlotsFit (covers : List ℕ) (n : ℕ) (slots available : List ℕ) : Type 0 where
-  pub table : EntriesFit covers
-  pub few : n ≤ mostCells
-  pub sized : length slots ≡ 4096
-  pub slotted : (i : ℕ) → i < n → getD slots i 0 < 4 * entries covers
-  pub each : length available ≡ n
-  pub watered : (i : ℕ) → i < n → getD available i 0 ≤ mostAvailableWater
+use Rattle.survey.specs.Ways.{goesFrom}
+use Rattle.survey.specs.Order.{Counted}
 
 -- the slot of a cell's three numbers, 256 where they do not fit
-unfoldable pub slotIn : List ℕ → ℕ → ℕ → ℕ → ℕ
-slotIn index code group available =
+unfoldable pub slotBy : List ℕ → ℕ → ℕ → ℕ → ℕ
+slotBy index code group available =
     cond (eqb (getD index code 0) 0) 256
     (cond (within 1 4 group && leb available mostAvailableWater) (4 * (getD index code 0 - 1) + (group - 1)) 256)
 
 abbrev pub slotAt : List ℕ → List ℕ → List ℕ → List ℕ → ℕ → ℕ
-slotAt index cover group available i = slotIn index (getD cover i 0) (getD group i 0) (getD available i 0)
+slotAt index cover group available i = slotBy index (getD cover i 0) (getD group i 0) (getD available i 0)
 
 -- an index of at most 64 entries
 pub record IndexFits (index : List ℕ) : Type 0 where

@@ -1,4 +1,4 @@
-pub mod Routes
-pub mod Peeling
+pub mod Charts
+pub mod Ways
+pub mod Order
 pub mod Cells
-pub mod Survey

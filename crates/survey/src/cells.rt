@@ -1,7 +1,7 @@
 // The cells' own numbers, test 4, where each cell points, and how many lead to it.
 ghost use mathlib.Core.Path.{_≡_};
 ghost use Prim.Native.Nat.{_*_, _≤_, _<_};
-ghost use Rattle.survey.specs.Cells.{slotIn, slotAt, IndexFits, wayFrom, wayAt, Layable, LaidOrBad};
+ghost use Rattle.survey.specs.Cells.{slotBy, slotAt, IndexFits, wayFrom, wayAt, Layable, LaidOrBad};
 use crate::order::none_waiting;
 use crate::order::wait_for;
 use crate::ways::OPEN_WATER;
@@ -10,10 +10,10 @@ use covers::CODES;
 use covers::ENTRY_NUMBERS;
 use covers::MOST_SLOTS;
 use covers::OPEN_FLAG;
-use covers::small_place;
+use covers::small_index;
 use records::MOST_CELLS;
 use records::Place;
-use records::place;
+use records::index_of;
 
 // Past every slot.
 const NO_SLOT: usize = MOST_SLOTS;
@@ -27,20 +27,20 @@ const MOST_AVAILABLE_WATER: u32 = 600;
 // A cell's slot, 4 × its cover's entry + its group - 1, where its three numbers are within their limits.
 fn slot(index: &[u8; CODES], code: u32, group: u32, available: u32) -> usize
     requires { ⌜ IndexFits (now index) ⌝ }
-    ensures { λ r. ⌜ (r ≡ slotIn (now (index .entry)) code group available) × (r ≤ 256) ⌝ }
+    ensures { λ r. ⌜ (r ≡ slotBy (now (index .entry)) code group available) × (r ≤ 256) ⌝ }
 {
-    let at = place(code);
+    let at = index_of(code);
     if CODES <= at {
         return NO_SLOT;
     }
-    let entry = small_place(index[at]);
+    let entry = small_index(index[at]);
     if entry == 0 {
         return NO_SLOT;
     }
     if !(((1 <= group) & (group <= GROUPS)) & (available <= MOST_AVAILABLE_WATER)) {
         return NO_SLOT;
     }
-    4 * (entry - 1) + (place(group) - 1)
+    4 * (entry - 1) + (index_of(group) - 1)
 }
 
 // Where a cell of that row and column points: open water nowhere, whatever its byte.

@@ -3,7 +3,7 @@ ghost use mathlib.Core.Path.{_≡_};
 ghost use Rattle.paper.specs.Day.{checkOf};
 ghost use Rattle.records.specs.Grids.{setupAs};
 ghost use Rattle.records.specs.Verdicts.{verdictIn};
-ghost use Rattle.survey.specs.Survey.{Wiped, Surveyable, Chart, Surveyed};
+ghost use Rattle.survey.specs.Charts.{Wiped, Surveyable, Chart, Surveyed};
 use crate::cells::lay_cells;
 use crate::order::put_in_order;
 use crate::ways::CLOSED;

@@ -6,12 +6,12 @@ ghost use lib.Dec.{ltb};
 ghost use lib.ListN.{length, getD};
 ghost use Rattle.theory.specs.Lists.{madeOver};
 ghost use Rattle.theory.specs.Lowest.{lowest};
-ghost use Rattle.survey.specs.Routes.{nextIn, WaysIn, OrderOrRing};
+ghost use Rattle.survey.specs.Charts.{nextAs, WaysFit};
+ghost use Rattle.survey.specs.Order.{OrderOrRing, waits, waitFor, Counted, Blank, GatheredHeld, PeeledHeld};
 ghost use Rattle.records.specs.Places.{placeIn};
-ghost use Rattle.survey.specs.Peeling.{waits, waitFor, Counted, Blank, GatheredIn, PeeledIn};
 use records::MOST_CELLS;
 use records::Place;
-use records::place;
+use records::index_of;
 
 // One cell to wait for: past every number of a cell.
 const ONE: u32 = 8192;
@@ -33,7 +33,7 @@ pub(crate) fn wait_for(n: usize, way: u32, order: &mut [u32; MOST_CELLS])
     requires { ⌜ (n ≤ 4096) × (way < n → getD (now order) way 0 ≤ 33554432) ⌝ }
     ensures { λ r. ⌜ now (order .exit) ≡ waitFor n way (now (order .entry)) ⌝ }
 {
-    let j = place(way);
+    let j = index_of(way);
     if j < n {
         order[j] += ONE;
     }
@@ -42,7 +42,7 @@ pub(crate) fn wait_for(n: usize, way: u32, order: &mut [u32; MOST_CELLS])
 // Puts the cells that wait for none into the queue, and says how many they are.
 fn sources(n: usize, order: &mut [u32; MOST_CELLS]) -> usize
     requires { ⌜ Blank n (now order) ⌝ }
-    ensures { λ r. ⌜ GatheredIn n (waits (now (order .entry))) n r (now (order .exit)) ⌝ }
+    ensures { λ r. ⌜ GatheredHeld n (waits (now (order .entry))) n r (now (order .exit)) ⌝ }
 {
     let mut tail = 0;
     let mut i = 0;
@@ -60,16 +60,16 @@ fn sources(n: usize, order: &mut [u32; MOST_CELLS]) -> usize
 // one joins the queue and is taken at once, out of a local: through the queue, each step would wait for the last one's stores. Its own way is
 // read before the stores: entry j of both arrays can have the same place in a page, and a read just after such a store waits for it.
 fn peel(n: usize, ways: &[u32; MOST_CELLS], order: &mut [u32; MOST_CELLS], sources: usize) -> usize
-    requires { ⌜ (WaysIn n (now ways)) × (PeeledIn n (nextIn n (now ways)) 0 sources sources (now order)) ⌝ }
-    ensures { λ r. ⌜ PeeledIn n (nextIn n (now (ways .entry))) sources sources r (now (order .exit)) ⌝ }
+    requires { ⌜ (WaysFit n (now ways)) × (PeeledHeld n (nextAs n (now ways)) 0 sources sources (now order)) ⌝ }
+    ensures { λ r. ⌜ PeeledHeld n (nextAs n (now (ways .entry))) sources sources r (now (order .exit)) ⌝ }
 {
     let mut tail = sources;
     let mut head = 0;
     while head < sources {
-        let cell = place(order[head] % ONE);
+        let cell = index_of(order[head] % ONE);
         let mut way = ways[cell];
         loop {
-            let j = place(way);
+            let j = index_of(way);
             if n <= j {
                 break;
             }
@@ -109,8 +109,8 @@ pub(crate) fn put_in_order(
     ways: &[u32; MOST_CELLS],
     order: &mut [u32; MOST_CELLS],
 ) -> Place
-    requires { ⌜ (WaysIn n (now ways)) × (Counted n (nextIn n (now ways)) n (now order)) ⌝ }
-    ensures { λ r. ⌜ OrderOrRing n (nextIn n (now (ways .entry))) r (now (order .exit)) ⌝ }
+    requires { ⌜ (WaysFit n (now ways)) × (Counted n (nextAs n (now ways)) n (now order)) ⌝ }
+    ensures { λ r. ⌜ OrderOrRing n (nextAs n (now (ways .entry))) r (now (order .exit)) ⌝ }
 {
     let first = sources(n, order);
     let taken = peel(n, ways, order, first);

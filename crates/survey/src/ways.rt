@@ -3,7 +3,7 @@ ghost use mathlib.Core.Path.{_≡_};
 ghost use Prim.Native.Nat.{_*_, _%_, _≤_, _<_};
 ghost use Rattle.paper.specs.Directions.{wayOf, stepped, cellAt};
 ghost use Rattle.paper.specs.Setup.{pointed};
-ghost use Rattle.survey.specs.Routes.{stepOf, wayIn, goesFrom};
+ghost use Rattle.survey.specs.Ways.{stepOf, wayAs, goesFrom};
 
 // Ways past every cell: over the edge, a closed depression, which keeps its water, and open water.
 pub const OVER_THE_EDGE: u32 = 4096;
@@ -56,7 +56,7 @@ fn toward(width: u32, height: u32, row: u32, column: u32, down: u32, right: u32)
 
 // The byte's two steps as one number, which the compiler finds in a table. Eight arms with code of their own would often be guessed wrong.
 fn steps(byte: u32) -> u32
-    ensures { λ r. ⌜ (wayIn r ≡ wayOf byte) × (r ≤ 12) × (r % 4 ≤ 2) ⌝ }
+    ensures { λ r. ⌜ (wayAs r ≡ wayOf byte) × (r ≤ 12) × (r % 4 ≤ 2) ⌝ }
 {
     match byte {
         1 => RIGHT,

@@ -18,13 +18,13 @@ use Rattle.paper.specs.Interception.{intercepted, net}
 use Rattle.paper.specs.Outflow.{excess, spread, outflow}
 use Rattle.paper.specs.Refusals.{numberOf, placeOf, single, judged, verdict, oneEach, setupLengths, coverPlaces, coverFits, mapTests, setupTests, stateFits, tooDeep, dayTests}
 use Rattle.paper.specs.Retention.{F, between, L, loss}
-use Rattle.paper.specs.Setup.{cellsIn, gridFits, seasonFits, growing, placeOr, entryOf, cellFits, isOpen, goes, pointed, next, isClosed, cell}
+use Rattle.paper.specs.Setup.{cellsOf, gridFits, seasonFits, growing, placeOr, entryOf, cellFits, isOpen, goes, pointed, next, isClosed, cell}
 use Rattle.paper.specs.Snow.{fallsAsSnow, aboveFreezing, meltable, melt}
 use Rattle.paper.specs.Soil.{surplus, wetDay, dryDay, soilDay}
 use Rattle.paper.specs.State.{remembered, fiveDays, mostSoilOf, mostSnowOf, storesFit, memoryFits, lastFits, pastFits, dayFits, follows, freshState}
 use Rattle.text.specs.Examples.{lines, Agree, paperInput, examples}
 use Rattle.text.specs.Lines.{digitsWithin, digits, row, dayLine, bytes, endLine, refusedLine}
-use Rattle.text.specs.Program.{coverCount, cellCount, cellsFrom, daysFrom, dayCount, isComplete, groupIn, setup, dayAt, refusal, noResults, dayText, daysText, freshText, startText, runText, screen, screenText, numbersText, formText, printed}
+use Rattle.text.specs.Program.{coverCount, cellCount, cellsFrom, daysFrom, dayCount, isComplete, groupGiven, setup, dayAt, refusal, noResults, dayText, daysText, freshText, startText, runText, screen, screenText, numbersText, formText, printed}
 use Rattle.text.specs.Words.{isBlank, longer, pieces, kept, words, isDigit, allDigits, spelled, isFirstDigit, isCount, isZero, number, andThen, meant, reading, code, codes, signed}
 
 pub paper-read :
@@ -45,5 +45,5 @@ unfolding lines bytes reading words pieces longer kept isBlank meant andThen num
 paper-read = refl
 
 pub examples-agree : Agree examples
-unfolding made orAt lowest isFound some sum given walk onRing today figureOf interceptedOf netOf rainOf storeOf meltOf ownOf passedOf openDay groundOf landDay cellDay entries sizeFits groupFits rises entryFits class conditionOf nearest curveNumber checkOf freshAs freshOf passed own inflow figures isLeaving isGone resultsOf totalsOf nextState lengthsOf verdictOf figuresOf outcomeAs dayOf wayOf stepped cellAt goesBy arriving waterFrom water intercepted net excess spread outflow numberOf placeOf single judged verdict oneEach setupLengths coverPlaces coverFits mapTests setupTests stateFits tooDeep dayTests F between L loss cellsIn gridFits seasonFits growing placeOr entryOf cellFits isOpen goes pointed next isClosed cell fallsAsSnow aboveFreezing meltable melt surplus wetDay dryDay soilDay remembered fiveDays mostSoilOf mostSnowOf storesFit memoryFits lastFits pastFits dayFits follows freshState lines Agree examples digitsWithin digits row dayLine bytes endLine refusedLine coverCount cellCount cellsFrom daysFrom dayCount isComplete groupIn setup dayAt refusal noResults dayText daysText freshText startText runText screen screenText numbersText formText printed isBlank longer pieces kept words isDigit allDigits spelled isFirstDigit isCount isZero number andThen meant reading code codes signed
+unfolding made orAt lowest isFound some sum given walk onRing today figureOf interceptedOf netOf rainOf storeOf meltOf ownOf passedOf openDay groundOf landDay cellDay entries sizeFits groupFits rises entryFits class conditionOf nearest curveNumber checkOf freshAs freshOf passed own inflow figures isLeaving isGone resultsOf totalsOf nextState lengthsOf verdictOf figuresOf outcomeAs dayOf wayOf stepped cellAt goesBy arriving waterFrom water intercepted net excess spread outflow numberOf placeOf single judged verdict oneEach setupLengths coverPlaces coverFits mapTests setupTests stateFits tooDeep dayTests F between L loss cellsOf gridFits seasonFits growing placeOr entryOf cellFits isOpen goes pointed next isClosed cell fallsAsSnow aboveFreezing meltable melt surplus wetDay dryDay soilDay remembered fiveDays mostSoilOf mostSnowOf storesFit memoryFits lastFits pastFits dayFits follows freshState lines Agree examples digitsWithin digits row dayLine bytes endLine refusedLine coverCount cellCount cellsFrom daysFrom dayCount isComplete groupGiven setup dayAt refusal noResults dayText daysText freshText startText runText screen screenText numbersText formText printed isBlank longer pieces kept words isDigit allDigits spelled isFirstDigit isCount isZero number andThen meant reading code codes signed
 examples-agree = (refl, (refl, (refl, (refl, (refl, (refl, (refl, (refl, (refl, (refl, (refl, (refl, (refl, (refl, (refl, (refl, (refl, (refl, (refl, (refl, (refl, tt)))))))))))))))))))))

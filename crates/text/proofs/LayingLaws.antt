@@ -5,7 +5,7 @@ use Prim.Native.Nat.{ℕ, _+_, _*_, _≤_}
 use native.Mathlib.Nat.{add-zero}
 use native.Mathlib.Omega.{arith}
 use lib.ListN.{length, getD, take}
-use Rattle.text.specs.Program.{coverCount, groupIn, cellCount, cellsFrom, daysFrom, setup}
+use Rattle.text.specs.Program.{coverCount, groupGiven, cellCount, cellsFrom, daysFrom, setup}
 use Rattle.text.specs.Laying.{Front, Laid}
 use Rattle.text.specs.Run.{Complete}
 
@@ -23,7 +23,7 @@ module _ (ns : List ℕ) (cells table : ℕ) (c : Complete ns cells) (e : table 
       → Front table (λ k. getD ns (5 + k) 0) covers
       → Front cells (λ i. getD ns (5 + table + 4 * i + 0) 0) direction
       → Front cells (λ i. getD ns (5 + table + 4 * i + 1) 0) cover
-      → Front cells (λ i. groupIn (getD ns (5 + table + 4 * i) 0) (getD ns (5 + table + 4 * i + 2) 0)) group
+      → Front cells (λ i. groupGiven (getD ns (5 + table + 4 * i) 0) (getD ns (5 + table + 4 * i + 2) 0)) group
       → Front cells (λ i. getD ns (5 + table + 4 * i + 3) 0) water
       → Laid ns (take table covers) (take cells direction) (take cells cover) (take cells group) (take cells water)
   unfolding setup

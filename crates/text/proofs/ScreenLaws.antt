@@ -8,7 +8,7 @@ use lib.Dec.{leb, eqb}
 use lib.ListN.{length}
 use borrow.Author.Tests.{lt-ltb, le-ltb, leb-true}
 use Rattle.theory.proofs.Cases.{byCases, below-or-not, and-left, and-right}
-use Rattle.paper.specs.Setup.{cellsIn, gridFits}
+use Rattle.paper.specs.Setup.{cellsOf, gridFits}
 use Rattle.text.specs.Program.{field, coverCount, cellCount, cellsFrom, daysFrom, isComplete, setup, screen}
 use Rattle.text.specs.Run.{Complete}
 use Rattle.text.specs.declared.screening.Screened.the-variants.{Refused, Ready}
@@ -28,7 +28,7 @@ hasAll count needed = leb needed count && eqb ((count - needed) % 7) 0
 
 module _ (ns : List ℕ) where
   pub few-cells : gridTakes (field ns 0) (field ns 1) ≡ true → field ns 0 * field ns 1 ≤ 4096
-  unfolding gridFits cellsIn
+  unfolding gridFits cellsOf
   few-cells e = leb-true (field ns 0 * field ns 1) 4096 (and-right (leb 1 (field ns 0) && leb 1 (field ns 1)) (leb (field ns 0 * field ns 1) 4096) e)
 
   pub few-covers : coversTake (field ns 4) ≡ true → field ns 4 ≤ 64

@@ -100,7 +100,7 @@ module _
         pub start-runs :
             (v : Verdict) → record { verdict = v; state = st } ≡ freshOf here soil snow → v ≡ accepted
             → runText ns ≡ daysText here st (noResults (length direction)) 0 (made (dayCount ns) (dayAt ns))
-        unfolding runText startText freshText paper.cellsIn cellCount setup
+        unfolding runText startText freshText paper.cellsOf cellCount setup
         start-runs v q e =
             ap (freshText (setup ns) (made (dayCount ns) (dayAt ns)) first) (sym (ap (λ (f : Fresh). f .verdict) (of-setup v q)) ∙ e)
             ∙ sym (λ k. daysText (same-setup k) (of-setup v q k .state) (noResults (each k)) 0 (made (dayCount ns) (dayAt ns)))

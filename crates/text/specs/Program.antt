@@ -20,8 +20,8 @@ abbrev pub mostBytes : ℕ
 mostBytes = 65536
 
 -- a negative direction is a fault of its cell: its group then stands as 0, which is outside 1 to 4
-unfoldable pub groupIn : ℕ → ℕ → ℕ
-groupIn direction group = cond (ltb negatives direction) 0 group
+unfoldable pub groupGiven : ℕ → ℕ → ℕ
+groupGiven direction group = cond (ltb negatives direction) 0 group
 
 -- The input's numbers are held as their codes, so that a number below zero is past the limits of its field; a temperature has its sign back.
 -- In order: width, height, first, last, count of covers; 16 numbers a cover; four a cell; seven a day.
@@ -59,7 +59,7 @@ module _ (ns : List ℕ) where
         covers = made (16 * coverCount) (λ k. field (5 + k));
         direction = made cellCount (λ i. field (cellsFrom + 4 * i));
         cover = made cellCount (λ i. field (cellsFrom + 4 * i + 1));
-        group = made cellCount (λ i. groupIn (field (cellsFrom + 4 * i)) (field (cellsFrom + 4 * i + 2)));
+        group = made cellCount (λ i. groupGiven (field (cellsFrom + 4 * i)) (field (cellsFrom + 4 * i + 2)));
         available = made cellCount (λ i. field (cellsFrom + 4 * i + 3));
       }
 

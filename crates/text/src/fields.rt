@@ -3,7 +3,7 @@ ghost use mathlib.Core.Path.{_≡_};
 ghost use Prim.Native.Nat.{_+_, _*_, _≤_, _<_};
 ghost use lib.ListN.{length, getD};
 ghost use Rattle.text.specs.Words.{signed};
-ghost use Rattle.text.specs.Program.{groupIn};
+ghost use Rattle.text.specs.Program.{groupGiven};
 ghost use Rattle.text.specs.Laying.{Front};
 use crate::reading::NEGATIVES;
 use records::MOST_CELLS;
@@ -50,14 +50,14 @@ pub(crate) fn column(numbers: &[u32], from: usize, which: usize, count: usize) -
 
 // A cell's group; 0, which is no group, where its direction is below zero.
 fn group(direction: u32, given: u32) -> u32
-    ensures { λ r. ⌜ r ≡ groupIn direction given ⌝ }
+    ensures { λ r. ⌜ r ≡ groupGiven direction given ⌝ }
 {
     if NEGATIVES < direction { 0 } else { given }
 }
 
 pub(crate) fn groups(numbers: &[u32], from: usize, count: usize) -> [u32; MOST_CELLS]
     requires { ⌜ (from + 4 * count ≤ length (now numbers)) × (count ≤ 4096) ⌝ }
-    ensures { λ r. ⌜ Front count (λ i. groupIn (getD (now (numbers .entry)) (from + 4 * i) 0) (getD (now (numbers .entry)) (from + 4 * i + 2) 0)) r ⌝ }
+    ensures { λ r. ⌜ Front count (λ i. groupGiven (getD (now (numbers .entry)) (from + 4 * i) 0) (getD (now (numbers .entry)) (from + 4 * i + 2) 0)) r ⌝ }
 {
     let mut cells = [0u32; MOST_CELLS];
     let mut i = 0;

@@ -9,7 +9,7 @@ use crate::fields::DAY_NUMBERS;
 use crate::fields::FRONT_NUMBERS;
 use covers::ENTRY_NUMBERS;
 use records::Grid;
-use records::place;
+use records::index_of;
 
 pub(crate) enum Screened {
     // A refusal's number and place.
@@ -67,7 +67,7 @@ pub(crate) fn screen(numbers: &[u32]) -> Screened
     let cells = grid.cells();
     if !complete(
         count,
-        FRONT_NUMBERS + ENTRY_NUMBERS * place(covers) + CELL_NUMBERS * cells,
+        FRONT_NUMBERS + ENTRY_NUMBERS * index_of(covers) + CELL_NUMBERS * cells,
     ) {
         return Screened::Refused(TEXT, units(count));
     }

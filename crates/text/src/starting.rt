@@ -18,7 +18,7 @@ use records::Grid;
 use records::MOST_CELLS;
 use records::Season;
 use records::Verdict;
-use records::place;
+use records::index_of;
 
 fn grid_in(numbers: &[u32]) -> Grid
     requires { ⌜ 5 ≤ length (now numbers) ⌝ }
@@ -96,7 +96,7 @@ pub(crate) fn started(numbers: &[u32], cells: usize, output: &mut [u8]) -> usize
     requires { ⌜ Complete (now numbers) cells × Coded (now numbers) × (mostText ≤ length (now output)) ⌝ }
     ensures { λ r. ⌜ Wrote mostText 0 (runText (now (numbers .entry))) (now (output .entry)) (now (output .exit)) r ⌝ }
 {
-    let count = ENTRY_NUMBERS * place(numbers[4]);
+    let count = ENTRY_NUMBERS * index_of(numbers[4]);
     let from = FRONT_NUMBERS + count;
     let covers = table(numbers, count);
     let direction = column(numbers, from, 0, cells);

@@ -9,8 +9,8 @@ use Rattle.paper.specs.Setup.{Season}
 use Rattle.paper.specs.State.{Memory, Past, Day, dayFits, memoryFits}
 use Rattle.paper.specs.CurveNumber.{Condition, curveNumber}
 use Rattle.paper.specs.CellDay.{today}
-use Rattle.weather.specs.Conditions.{FiveFit, curveNumberIn}
-use Rattle.weather.specs.Today.{noWeather, todayIn}
+use Rattle.weather.specs.Conditions.{FiveFit, curveNumberBy}
+use Rattle.weather.specs.Today.{noWeather, weatherOf}
 
 -- what the rules ask of a day
 pub record DayKnown (d : Day) : Type 0 where
@@ -43,19 +43,19 @@ five-fit m h =
     }
 
 module _ (s : Season) (p : Past) (d : Day) where
-  pub today-fits : dayFits d ≡ true → memoryFits (p .memory) ≡ true → todayIn s p d ≡ today s p d
-  unfolding todayIn
+  pub today-fits : dayFits d ≡ true → memoryFits (p .memory) ≡ true → weatherOf s p d ≡ today s p d
+  unfolding weatherOf
   today-fits day memory = rw (day, memory) refl
 
-  pub no-day : dayFits d ≡ false → noWeather ≡ todayIn s p d
-  unfolding todayIn
+  pub no-day : dayFits d ≡ false → noWeather ≡ weatherOf s p d
+  unfolding weatherOf
   no-day day = rw day refl
 
-  pub no-memory : dayFits d ≡ true → memoryFits (p .memory) ≡ false → noWeather ≡ todayIn s p d
-  unfolding todayIn
+  pub no-memory : dayFits d ≡ true → memoryFits (p .memory) ≡ false → noWeather ≡ weatherOf s p d
+  unfolding weatherOf
   no-memory day memory = rw (day, memory) refl
 
 -- a table's number is read in its condition
-pub table-number : (c : Condition) (N : ℕ) → leastCurveNumber ≤ N → N ≤ mostCurveNumber → curveNumberIn c N ≡ curveNumber c N
-unfolding curveNumberIn
+pub table-number : (c : Condition) (N : ℕ) → leastCurveNumber ≤ N → N ≤ mostCurveNumber → curveNumberBy c N ≡ curveNumber c N
+unfolding curveNumberBy
 table-number c N low high = rw (le-leb _ _ low, le-leb _ _ high) refl

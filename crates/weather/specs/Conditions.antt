@@ -21,5 +21,5 @@ pub record FiveFit (m : Memory) : Type 0 where
   pub yesterday : m .yesterday ≤ mostGross
 
 -- the table's N in a condition; a number outside the table's limits is handed back
-unfoldable pub curveNumberIn : paper.Condition → ℕ → ℕ
-curveNumberIn c N = cond (within leastCurveNumber mostCurveNumber N) (paper.curveNumber c N) N
+unfoldable pub curveNumberBy : paper.Condition → ℕ → ℕ
+curveNumberBy c N = cond (within leastCurveNumber mostCurveNumber N) (paper.curveNumber c N) N

@@ -32,5 +32,5 @@ noWeather =
     record { gross = 0; potential = 0; growing? = false; snows? = false; meltable = 0; condition = II }
 
 -- of a day and a memory within their limits; of any other, a day without weather
-unfoldable pub todayIn : Season → Past → Day → paper.Today
-todayIn s p d = cond (dayFits d && memoryFits (p .memory)) (paper.today s p d) noWeather
+unfoldable pub weatherOf : Season → Past → Day → paper.Today
+weatherOf s p d = cond (dayFits d && memoryFits (p .memory)) (paper.today s p d) noWeather

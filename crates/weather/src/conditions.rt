@@ -4,7 +4,7 @@ ghost use Prim.Native.Nat.{_<_};
 ghost use Rattle.paper.specs.State.{fiveDays};
 ghost use Rattle.paper.specs.CurveNumber.{class as classOf, conditionOf, nearest as rounded};
 ghost use Rattle.records.specs.Past.{memoryAs};
-ghost use Rattle.weather.specs.Conditions.{conditionAs, FiveFit, curveNumberIn};
+ghost use Rattle.weather.specs.Conditions.{conditionAs, FiveFit, curveNumberBy};
 use records::CurveNumber;
 use records::Depth;
 use records::Memory;
@@ -62,7 +62,7 @@ fn nearest(p: u64, q: u64) -> u64
 
 // The table's curve number in the day's condition; a number outside the table's limits is handed back.
 pub fn curve_number(condition: Condition, table: CurveNumber) -> CurveNumber
-    ensures { λ r. ⌜ r .0 ≡ curveNumberIn (conditionAs condition) (table .0) ⌝ }
+    ensures { λ r. ⌜ r .0 ≡ curveNumberBy (conditionAs condition) (table .0) ⌝ }
 {
     let n = table.0;
     if n < CurveNumber::LEAST.0 {

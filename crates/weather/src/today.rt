@@ -6,7 +6,7 @@ ghost use Rattle.paper.specs.CellDay.{today as paperDay};
 ghost use Rattle.records.specs.Grids.{seasonAs};
 ghost use Rattle.records.specs.Past.{memoryAs, pastAs};
 ghost use Rattle.records.specs.Days.{dayAs};
-ghost use Rattle.weather.specs.Today.{todayAs, noWeather, todayIn};
+ghost use Rattle.weather.specs.Today.{todayAs, noWeather, weatherOf};
 use crate::conditions::Condition;
 use crate::conditions::condition_of;
 use crate::snow::falls_as_snow;
@@ -64,7 +64,7 @@ fn no_weather() -> Today
 }
 
 pub fn today_of(season: Season, past: Past, day: DayRecord) -> Today
-    ensures { λ r. ⌜ todayAs r ≡ todayIn (seasonAs season) (pastAs past) (dayAs day) ⌝ }
+    ensures { λ r. ⌜ todayAs r ≡ weatherOf (seasonAs season) (pastAs past) (dayAs day) ⌝ }
 {
     let memory = past.memory;
     if !day.fits() {

@@ -20,7 +20,7 @@ returns-2 : tie.Need-returns-2
 returns-2 c =
     let a = c .before .before .before .before .before .before .before .before .before .before .before .before .before .before .before .before .before .args in
     on-land (todayAs (a .today)) (a .covers .now) (a .slot) _ _ _ _ _ _ _ _ _ (ne-eqb _ _ (λ e. c .before .before .before .before .before .before .before .before .before .before .before .before .before .if1 .left (c .before .before .before .before .before .before .before .before .before .before .before .before .before .before .number-at .ensures ∙ e)))
-    (c .before .before .before .before .before .before .before .before .before .before .depth .ensures ∙ c .before .before .before .before .before .before .before .before .before .before .before .number-at2 .ensures ∙ ap (numberOf (a .covers .now) (a .slot / 4)) (c .before .before .before .before .before .before .before .before .before .before .before .before .season-place .ensures .0))
+    (c .before .before .before .before .before .before .before .before .before .before .depth .ensures ∙ c .before .before .before .before .before .before .before .before .before .before .before .number-at2 .ensures ∙ ap (numberOf (a .covers .now) (a .slot / 4)) (c .before .before .before .before .before .before .before .before .before .before .before .before .season-figure .ensures .0))
     (c .before .before .before .before .before .before .before .before .before .smaller .ensures) (c .before .before .before .before .before .before .before .before .beyond .ensures) (c .before .before .falling .ensures) (c .before .falling2 .ensures)
     (c .before .before .before .before .before .before .before .number-at3 .ensures) (c .before .before .before .before .before .before .curve-number .ensures) (c .before .before .before .before .before .number-at4 .ensures) (c .before .before .before .before .number-at5 .ensures)
 

@@ -20,17 +20,17 @@ abbrev μ-loop : tie.MeasureT-loop
 loop-holds : tie.Need-loop-holds Inv-loop μ-loop
 loop-holds c = (search needs, search needs, index-none _ (c .before .pre .0) _ (c .before .pre .1))
 
-mul-place : tie.Need-mul-place Inv-loop μ-loop
-mul-place c = search needs
+mul-index-of : tie.Need-mul-index-of Inv-loop μ-loop
+mul-index-of c = search needs
 
-mul-place-2 : tie.Need-mul-place-2 Inv-loop μ-loop
-mul-place-2 c = search needs
+mul-index-of-2 : tie.Need-mul-index-of-2 Inv-loop μ-loop
+mul-index-of-2 c = search needs
 
-shared-slice-read-place : tie.Need-shared-slice-read-place Inv-loop μ-loop
-shared-slice-read-place c = search needs
+shared-slice-read-index-of : tie.Need-shared-slice-read-index-of Inv-loop μ-loop
+shared-slice-read-index-of c = search needs
 
-place-requires : tie.Need-place-requires Inv-loop μ-loop
-place-requires c κs = search needs
+index-of-requires : tie.Need-index-of-requires Inv-loop μ-loop
+index-of-requires c κs = search needs
 
 add-index : tie.Need-add-index Inv-loop μ-loop
 add-index c = search needs
@@ -40,12 +40,12 @@ unfolding entries
 cast-index c = omega (arith, count-limit _ (c .before .before .before .before .before .pre .0))
 
 -- the code that is read is below 256
-code-small : (c : tie.After-place Inv-loop μ-loop) → codeOf (c .before .before .before .before .before .args .covers .now) (c .before .before .before .loop .e) < 256
+code-small : (c : tie.After-index-of Inv-loop μ-loop) → codeOf (c .before .before .before .before .before .args .covers .now) (c .before .before .before .loop .e) < 256
 unfolding entries
 code-small c = code-limit _ (c .before .before .before .before .before .pre .0) _ (c .before .before .loop-test .taken)
 
 element-write-index : tie.Need-element-write-index Inv-loop μ-loop
-element-write-index c = rw (c .place .ensures) (code-small c)
+element-write-index c = rw (c .index-of .ensures) (code-small c)
 
 add-e : tie.Need-add-e Inv-loop μ-loop
 add-e c = search needs
@@ -58,7 +58,7 @@ unfolding entries
 loop-again c = (
   search needs,
   search needs,
-  rw (c .place .ensures, add-one (c .before .before .before .loop .e), c .before .before .before .loop .inv .2)
+  rw (c .index-of .ensures, add-one (c .before .before .before .loop .e), c .before .before .before .loop .inv .2)
       (index-more _ (c .before .before .before .before .before .pre .0) _ (c .before .before .loop-test .taken)),
 )
 
@@ -75,10 +75,10 @@ index-codes-spec =
     Inv-loop
     μ-loop
     loop-holds
-    mul-place
-    mul-place-2
-    shared-slice-read-place
-    place-requires
+    mul-index-of
+    mul-index-of-2
+    shared-slice-read-index-of
+    index-of-requires
     add-index
     cast-index
     element-write-index

@@ -21,11 +21,11 @@ abbrev μ-loop : tie.MeasureT-loop
     length available - turn
 
 -- from a cell's figures back to its place in the order
-abbrev turned : tie.After-add-cell Inv-loop μ-loop → tie.After-place Inv-loop μ-loop
+abbrev turned : tie.After-add-cell Inv-loop μ-loop → tie.After-index-of Inv-loop μ-loop
 turned c = c .before .before .before .before .before .before .before .before .before .before
 
-small : (c : tie.After-place Inv-loop μ-loop) → c .place .result < 4096
-small c = pass-small (c .before .before .before .loop .inv) (c .before .before .loop-test .taken) _ (c .place .ensures)
+small : (c : tie.After-index-of Inv-loop μ-loop) → c .index-of .result < 4096
+small c = pass-small (c .before .before .before .loop .inv) (c .before .before .loop-test .taken) _ (c .index-of .ensures)
 
 -- one entry a cell
 sized : (c : tie.After-add-cell Inv-loop μ-loop)
@@ -34,8 +34,8 @@ sized : (c : tie.After-add-cell Inv-loop μ-loop)
     (slicesOf (l .loop .soil) (l .loop .snow) (l .loop .intercepted) (l .loop .outflow) (l .loop .evapotranspired) (l .loop .recharged) (l .loop .rejected))
 sized c = pass-sized (turned c .before .before .before .loop .inv)
 
-inside : (c : tie.After-add-cell Inv-loop μ-loop) → turned c .place .result < length (turned c .before .before .before .before .before .before .before .before .before .before .before .before .before .before .before .args .available .now)
-inside c = let p = turned c in pass-inside (p .before .before .before .loop .inv) (p .before .before .loop-test .taken) _ (p .place .ensures)
+inside : (c : tie.After-add-cell Inv-loop μ-loop) → turned c .index-of .result < length (turned c .before .before .before .before .before .before .before .before .before .before .before .before .before .before .before .args .available .now)
+inside c = let p = turned c in pass-inside (p .before .before .before .loop .inv) (p .before .before .loop-test .taken) _ (p .index-of .ensures)
 
 retention-requires : tie.Need-retention-requires Inv-loop μ-loop
 retention-requires c κs = search needs
@@ -46,14 +46,14 @@ none-requires c κs = search needs
 loop-holds : tie.Need-loop-holds Inv-loop μ-loop
 loop-holds c = pass-none (c .before .before .before .before .before .before .before .before .before .before .before .pre) _ (c .none .ensures) _ (c .before .retention .ensures)
 
-mul-place : tie.Need-mul-place Inv-loop μ-loop
-mul-place c = omega (arith, c .loop-test .taken, c .before .loop .inv .ready .pointing .most)
+mul-index-of : tie.Need-mul-index-of Inv-loop μ-loop
+mul-index-of c = omega (arith, c .loop-test .taken, c .before .loop .inv .ready .pointing .most)
 
-element-copy-out-place : tie.Need-element-copy-out-place Inv-loop μ-loop
-element-copy-out-place c = omega (arith, c .loop-test .taken, c .before .loop .inv .ready .pointing .most)
+element-copy-out-index-of : tie.Need-element-copy-out-index-of Inv-loop μ-loop
+element-copy-out-index-of c = omega (arith, c .loop-test .taken, c .before .loop .inv .ready .pointing .most)
 
-place-requires : tie.Need-place-requires Inv-loop μ-loop
-place-requires c κs = search needs
+index-of-requires : tie.Need-index-of-requires Inv-loop μ-loop
+index-of-requires c κs = search needs
 
 mul-add-cell : tie.Need-mul-add-cell Inv-loop μ-loop
 mul-add-cell c = omega (arith, small c)
@@ -62,12 +62,12 @@ element-copy-out-add-cell : tie.Need-element-copy-out-add-cell Inv-loop μ-loop
 element-copy-out-add-cell c = omega (arith, small c)
 
 day-at-requires : tie.Need-day-at-requires Inv-loop μ-loop
-day-at-requires c κs = pass-lent (c .before .before .before .before .before .before .before .before .loop .inv) (c .before .before .before .before .before .before .before .loop-test .taken) _ (c .before .before .before .before .before .place .ensures)
+day-at-requires c κs = pass-lent (c .before .before .before .before .before .before .before .before .loop .inv) (c .before .before .before .before .before .before .before .loop-test .taken) _ (c .before .before .before .before .before .index-of .ensures)
 
 hand-on-requires : tie.Need-hand-on-requires Inv-loop μ-loop
 hand-on-requires c κs =
     let p = c .before .before .before .before .before .before .before .before .before .before .loop .inv in
-    (p .ready .pointing .most, pass-fits p (c .before .before .before .before .before .before .before .before .before .loop-test .taken) _ (c .before .before .before .before .before .before .before .place .ensures) _ (c .before .day-at .ensures))
+    (p .ready .pointing .most, pass-fits p (c .before .before .before .before .before .before .before .before .before .loop-test .taken) _ (c .before .before .before .before .before .before .before .index-of .ensures) _ (c .before .day-at .ensures))
 
 gone-from-requires : tie.Need-gone-from-requires Inv-loop μ-loop
 gone-from-requires c κs = search needs
@@ -125,7 +125,7 @@ loop-less c = omega (arith, c .before .before .before .before .before .before .b
 
 loop-again : tie.Need-loop-again Inv-loop μ-loop
 loop-again c =
-    pass-more (c .before .before .before .before .before .before .before .before .before .before .before .before .before .loop .inv) (c .before .before .before .before .before .before .before .before .before .before .before .before .loop-test .taken) _ (c .before .before .before .before .before .before .before .before .before .before .place .ensures) _ (c .before .before .before .before .day-at .ensures) _ _ _ (c .add-cell .ensures) (c .before .gone-from .ensures)
+    pass-more (c .before .before .before .before .before .before .before .before .before .before .before .before .before .loop .inv) (c .before .before .before .before .before .before .before .before .before .before .before .before .loop-test .taken) _ (c .before .before .before .before .before .before .before .before .before .before .index-of .ensures) _ (c .before .before .before .before .day-at .ensures) _ _ _ (c .add-cell .ensures) (c .before .gone-from .ensures)
     (c .before .before .hand-on .ensures)
 
 same-length : tie.Need-same-length Inv-loop μ-loop
@@ -161,9 +161,9 @@ downhill-spec =
     retention-requires
     none-requires
     loop-holds
-    mul-place
-    element-copy-out-place
-    place-requires
+    mul-index-of
+    element-copy-out-index-of
+    index-of-requires
     mul-add-cell
     element-copy-out-add-cell
     day-at-requires

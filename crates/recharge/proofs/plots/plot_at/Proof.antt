@@ -1,11 +1,11 @@
 -- `plots::plot_at` meets its contract: each number is read at its place.
-use Rattle.covers.specs.Plots.{plotIn}
+use Rattle.covers.specs.Plots.{plotBy}
 use borrow.Author.Needs.{needs}
 use Rattle.recharge.proofs.plots.plot_at.Statement.{statement}
 use Rattle.recharge.proofs.plots.plot_at.Tie as tie
 
 returns : tie.Need-returns
-unfolding plotIn
+unfolding plotBy
 returns c = cc
 
 pub plot-at-spec : {M : Type 1} → statement M

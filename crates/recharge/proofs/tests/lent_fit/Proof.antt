@@ -6,7 +6,7 @@ use Prim.Native.Nat.{ℕ}
 use borrow.Author.Needs.{needs}
 use borrow.Author.Tests.{not-true, not-false}
 use Rattle.theory.proofs.Cases.{and-both, and-first, and-second}
-use Rattle.paper.specs.Setup.{cellsIn, gridFits}
+use Rattle.paper.specs.Setup.{cellsOf, gridFits}
 use Rattle.paper.specs.Refusals.{oneEach}
 use Rattle.records.specs.Grids.{gridAs}
 use Rattle.records.specs.Verdicts.{verdictIn}
@@ -42,7 +42,7 @@ returns-2 c =
     (each-both _ (stores s) _ ∙ and-first _ _ (ap (λ (n : ℕ). oneEach n (stores s)) (sym (counted .cells .ensures)) ∙ sym (c .before .stores-each .ensures) ∙ not-true _ (c .if2 .taken)))))
 
 -- the stores have one entry a cell
-stored : (c : tie.Else2) → oneEach (cellsIn (gridAs (c .before .before .before .before .before .args .grid))) (stores (c .before .before .before .before .before)) ≡ true
+stored : (c : tie.Else2) → oneEach (cellsOf (gridAs (c .before .before .before .before .before .args .grid))) (stores (c .before .before .before .before .before)) ≡ true
 stored c =
     let counted = c .before .before in
     ap (λ (n : ℕ). oneEach n (stores (counted .before .before .before))) (sym (counted .cells .ensures)) ∙ sym (c .before .stores-each .ensures) ∙ not-false _ (c .if2 .left)
@@ -53,7 +53,7 @@ returns-3 c =
     let counted = kept .before .before in
     let s = counted .before .before .before in
     ap verdictIn (sym (not-each _ _ (fits (counted .before))
-    (each-both _ (stores s) _ ∙ and-second (oneEach (cellsIn (gridAs (s .args .grid))) (stores s)) _
+    (each-both _ (stores s) _ ∙ and-second (oneEach (cellsOf (gridAs (s .args .grid))) (stores s)) _
     (ap (λ (n : ℕ). oneEach n (results s)) (sym (counted .cells .ensures)) ∙ sym (c .before .results-each .ensures) ∙ not-true _ (c .if3 .taken)))))
 
 returns-4 : tie.Need-returns-4

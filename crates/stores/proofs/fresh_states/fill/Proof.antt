@@ -9,7 +9,7 @@ use Rattle.theory.specs.Lists.{made, madeOver}
 use Rattle.theory.proofs.ListLaws.{over-none, over-more, over-all, over-length, over-room}
 use Rattle.paper.specs.State.{mostSoilOf}
 use Rattle.covers.specs.Slots.{groupNumberAt, cellFrom}
-use Rattle.survey.specs.Cells.{SlotsFit}
+use Rattle.survey.specs.Charts.{SlotsFit}
 use Rattle.stores.proofs.FreshLaws.{full-fits, full-is}
 use Rattle.stores.proofs.fresh_states.fill.Statement.{statement}
 use Rattle.stores.proofs.fresh_states.fill.Tie as tie
@@ -33,16 +33,16 @@ loop-holds c =
     (search needs, sym (over-none _ _), sym (over-none {A = ℕ} _ _), p .1, p .2, p .0, c .root-depths .ensures)
 
 -- the head of the loop
-abbrev head : tie.After-small-place Inv-loop μ-loop → tie.At-loop Inv-loop μ-loop
+abbrev head : tie.After-small-index Inv-loop μ-loop → tie.At-loop Inv-loop μ-loop
 head c = c .before .before .before .before
 
-abbrev start : tie.After-small-place Inv-loop μ-loop → tie.Start Inv-loop μ-loop
+abbrev start : tie.After-small-index Inv-loop μ-loop → tie.Start Inv-loop μ-loop
 start c = head c .before .before .before .before .before .before
 
 mul-soil-3 : tie.Need-mul-soil-3 Inv-loop μ-loop
 mul-soil-3 c =
     let l = head c .loop in
-    rw (c .small-place .ensures .0) (omega (arith, full-fits _ _ _ _ (l .inv .5) (l .inv .6) (l .i) (c .before .before .before .loop-test .taken)))
+    rw (c .small-index .ensures .0) (omega (arith, full-fits _ _ _ _ (l .inv .5) (l .inv .6) (l .i) (c .before .before .before .loop-test .taken)))
 
 slice-write-soil : tie.Need-slice-write-soil Inv-loop μ-loop
 slice-write-soil c = let inv = head c .loop .inv in over-room _ _ _ _ (inv .1) (omega (arith, inv .3))
@@ -51,12 +51,12 @@ slice-write-snow : tie.Need-slice-write-snow Inv-loop μ-loop
 slice-write-snow c = let inv = head c .loop .inv in over-room _ _ _ _ (inv .2) (omega (arith, inv .4))
 
 -- what is written into the cell's soil
-full : (c : tie.After-small-place Inv-loop μ-loop)
-    → getD (start c .args .available .now) (head c .loop .i) 0 * getD (head c .before .root-depths .result) (c .small-place .result) 0
+full : (c : tie.After-small-index Inv-loop μ-loop)
+    → getD (start c .args .available .now) (head c .loop .i) 0 * getD (head c .before .root-depths .result) (c .small-index .result) 0
     ≡ mostSoilOf (cellFrom (start c .args .covers .now) (getD (start c .args .slots .now) (head c .loop .i) 0) (getD (start c .args .available .now) (head c .loop .i) 0) 0)
 full c =
     let l = head c .loop in
-    ap (λ (k : ℕ). getD (start c .args .available .now) (l .i) 0 * getD (head c .before .root-depths .result) k 0) (c .small-place .ensures .0)
+    ap (λ (k : ℕ). getD (start c .args .available .now) (l .i) 0 * getD (head c .before .root-depths .result) k 0) (c .small-index .ensures .0)
     ∙ full-is _ _ _ _ (l .inv .5) (l .inv .6) (l .i) (c .before .before .before .loop-test .taken)
 
 loop-again : tie.Need-loop-again Inv-loop μ-loop

@@ -6,7 +6,7 @@ use Rattle.stores.proofs.snowfall.is_deep.Tie as tie
 
 returns : tie.Need-returns
 returns c =
-    let small = c .before .before .before .before .small-place in
+    let small = c .before .before .before .before .small-index in
     rw (c .before .before .before .within-32 .ensures .0, c .before .within-322 .ensures .0, small .ensures .0) refl
 
 pub is-deep-spec : {M : Type 1} → statement M

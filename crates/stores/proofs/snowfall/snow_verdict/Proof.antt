@@ -8,13 +8,13 @@ use borrow.Author.Count.{below-more}
 use borrow.Author.Needs.{needs}
 use lib.ListN.{length}
 use Rattle.records.proofs.PlaceLaws.{PassedTo}
-use Rattle.stores.specs.Snowfall.{deepIn}
+use Rattle.stores.specs.Snowfall.{deepBy}
 use Rattle.stores.proofs.SnowfallLaws.{deep-found, none-deep}
 use Rattle.stores.proofs.snowfall.snow_verdict.Statement.{statement}
 use Rattle.stores.proofs.snowfall.snow_verdict.Tie as tie
 
 abbrev Inv-loop : tie.InvT-loop
-Inv-loop plots slots snow n i₀ i = (n ≡ min (length snow) 4096) × (i ≤ n) × PassedTo (deepIn plots slots snow) i
+Inv-loop plots slots snow n i₀ i = (n ≡ min (length snow) 4096) × (i ≤ n) × PassedTo (deepBy plots slots snow) i
 
 abbrev μ-loop : tie.MeasureT-loop
 μ-loop plots slots snow n i₀ i = n - i
@@ -23,13 +23,13 @@ loop-holds : tie.Need-loop-holds Inv-loop μ-loop
 loop-holds c = (⊎-elim (λ w. omega arith) (λ w. omega arith) (c .if1 .came), search needs, λ j h. absurd (not-suc-le-zero h))
 
 returns : tie.Need-returns Inv-loop μ-loop
-unfolding deepIn
+unfolding deepBy
 returns c =
     let l = c .before .before .before .before .before .loop in
     deep-found _ _ _ (l .i) (l .inv .2) (omega arith) (sym (c .before .is-deep .ensures) ∙ c .if2 .taken)
 
 loop-again : tie.Need-loop-again Inv-loop μ-loop
-unfolding deepIn
+unfolding deepBy
 loop-again c =
     let l = c .before .before .before .before .before .loop in
     (l .inv .0, search needs, below-more _ _ (l .inv .2) (sym (c .before .is-deep .ensures) ∙ c .if2 .left))

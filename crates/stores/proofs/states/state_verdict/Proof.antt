@@ -8,7 +8,7 @@ use lib.Dec.{eqb}
 use lib.ListN.{length}
 use borrow.Author.Needs.{needs}
 use borrow.Author.Tests.{not-true, not-false}
-use Rattle.paper.specs.Setup.{cellsIn, gridFits}
+use Rattle.paper.specs.Setup.{cellsOf, gridFits}
 use Rattle.paper.specs.Refusals.{oneEach}
 use Rattle.records.specs.Grids.{gridAs}
 use Rattle.records.specs.Verdicts.{verdictIn}
@@ -39,7 +39,7 @@ module _ (c : tie.After-stores-each) where
   lengths = length (a .args .available .now) ∷ length (a .args .soil .now) ∷ length (a .args .snow .now) ∷ []
 
   each-is : (eqb (length (a .args .available .now)) (c .before .cells .result) && c .stores-each .result)
-      ≡ oneEach (cellsIn (gridAs (a .args .grid))) lengths
+      ≡ oneEach (cellsOf (gridAs (a .args .grid))) lengths
   unfolding oneEach
   each-is = rw (c .stores-each .ensures, c .before .cells .ensures) refl
 
@@ -49,7 +49,7 @@ returns-2 c =
     sym (ap verdictIn (lent-bad _ _ _ _ _ _ _ (fits (s .before .before)) (sym (each-is s) ∙ not-true _ (c .if2 .taken))))
 
 -- each slice has one entry a cell
-each : (c : tie.Else2) → oneEach (cellsIn (gridAs (a (c .before) .args .grid))) (lengths (c .before)) ≡ true
+each : (c : tie.Else2) → oneEach (cellsOf (gridAs (a (c .before) .args .grid))) (lengths (c .before)) ≡ true
 each c = sym (each-is (c .before)) ∙ not-false _ (c .if2 .left)
 
 bad-store-requires : tie.Need-bad-store-requires

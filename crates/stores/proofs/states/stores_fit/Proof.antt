@@ -11,7 +11,7 @@ mul-result c = record { fits = product-fits _ _ (c .before .before .within-32 .e
 returns : tie.Need-returns
 returns c =
     let start = c .before .before .before .before .before .before .before in
-    let small = c .before .before .before .before .before .small-place in
+    let small = c .before .before .before .before .before .small-index in
     rw (
       c .before .before .before .before .wide .ensures,
       c .before .before .before .within-32 .ensures .0,

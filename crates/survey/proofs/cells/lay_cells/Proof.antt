@@ -9,7 +9,7 @@ use borrow.Author.Needs.{needs}
 use borrow.Author.Tests.{eq-eqb}
 use Rattle.theory.proofs.ListLaws.{over-length, over-room}
 use Rattle.paper.specs.Covers.{entries, openOf}
-use Rattle.survey.specs.Peeling.{waitFor}
+use Rattle.survey.specs.Order.{waitFor}
 use Rattle.survey.specs.Cells.{slotAt, wayFrom}
 use Rattle.records.proofs.PlaceLaws.{found-place, no-place}
 use Rattle.survey.proofs.CountLaws.{count-none, count-fits}

@@ -9,12 +9,12 @@ use Rattle.survey.proofs.cells.slot.Statement.{statement}
 use Rattle.survey.proofs.cells.slot.Tie as tie
 
 returns : tie.Need-returns
-returns c = (slot-past _ _ _ _ (c .before .before .pre) (rw (c .before .place .ensures) at (c .if1 .taken)), search needs)
+returns c = (slot-past _ _ _ _ (c .before .before .pre) (rw (c .before .index-of .ensures) at (c .if1 .taken)), search needs)
 
 -- the entry of the index at the cell's code
-entry-is : (c : tie.After-small-place)
-    → c .small-place .result ≡ getD (c .before .before .before .before .args .index .now) (c .before .before .before .before .args .code) 0
-entry-is c = rw (c .before .before .before .place .ensures) at (c .small-place .ensures .0)
+entry-is : (c : tie.After-small-index)
+    → c .small-index .result ≡ getD (c .before .before .before .before .args .index .now) (c .before .before .before .before .args .code) 0
+entry-is c = rw (c .before .before .before .index-of .ensures) at (c .small-index .ensures .0)
 
 returns-2 : tie.Need-returns-2
 returns-2 c = (slot-none _ _ _ _ (sym (entry-is (c .before)) ∙ c .if2 .taken), search needs)
@@ -25,15 +25,15 @@ returns-3 c = (slot-bad _ _ _ _ (not-true _ (c .if3 .taken)), search needs)
 sub-result-2 : tie.Need-sub-result-2
 sub-result-2 c =
     let a = c .before .before .before .before .before .before .before .args in
-    omega (arith, c .place2 .ensures, group-in (a .group) (a .available) (not-false _ (c .before .if3 .left)))
+    omega (arith, c .index-of2 .ensures, group-in (a .group) (a .available) (not-false _ (c .before .if3 .left)))
 
 returns-4 : tie.Need-returns-4
 returns-4 c =
     let fits = not-false _ (c .before .if3 .left) in
     let entry = entry-is (c .before .before .before) in
     let start = c .before .before .before .before .before .before .before in (
-      rw (entry, c .place2 .ensures) (slot-good _ _ _ _ (λ e. c .before .before .if2 .left (entry ∙ e)) fits),
-      omega (arith, entry, c .place2 .ensures, group-in (start .args .group) (start .args .available) fits, start .pre .few (start .args .code)),
+      rw (entry, c .index-of2 .ensures) (slot-good _ _ _ _ (λ e. c .before .before .if2 .left (entry ∙ e)) fits),
+      omega (arith, entry, c .index-of2 .ensures, group-in (start .args .group) (start .args .available) fits, start .pre .few (start .args .code)),
     )
 
 pub slot-spec : {M : Type 1} → statement M

@@ -10,7 +10,7 @@ use borrow.Author.Count.{below-more, below-none}
 use borrow.Author.Tests.{lt-ltb, le-ltb}
 use Rattle.theory.proofs.LowestLaws.{at-lowest, none-lowest}
 use Rattle.records.specs.Places.{placeIn}
-use Rattle.survey.specs.Peeling.{waits}
+use Rattle.survey.specs.Order.{waits}
 use Rattle.survey.proofs.order.leftover.Tie as tie
 
 abbrev Inv-loop : tie.InvT-loop

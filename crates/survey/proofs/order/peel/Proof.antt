@@ -10,76 +10,76 @@ use native.Mathlib.Numerals.{add-one}
 use native.Mathlib.Omega.{arith}
 use borrow.Author.Needs.{needs}
 use lib.ListN.{getD, set}
-use Rattle.survey.specs.Routes.{nextIn}
-use Rattle.survey.specs.Peeling.{queued, PeeledIn}
+use Rattle.survey.specs.Charts.{nextAs}
+use Rattle.survey.specs.Order.{queued, PeeledHeld}
 use Rattle.survey.proofs.CountLaws.{way-next}
 use Rattle.survey.proofs.PeelLaws.{InHand, hand-source, hand-outside, hand-waiting, hand-room, hand-fits, hand-still, hand-joins}
 use Rattle.survey.proofs.order.peel.Tie as tie
 
 abbrev Inv-loop2 : tie.InvT-loop2
-Inv-loop2 n ways order₀ sources tail₀ head cell way₀ order tail way = InHand n (nextIn n ways) head sources tail way order
+Inv-loop2 n ways order₀ sources tail₀ head cell way₀ order tail way = InHand n (nextAs n ways) head sources tail way order
 
 abbrev μ-loop2 : tie.MeasureT-loop2
 μ-loop2 n ways order₀ sources tail₀ head cell way₀ order tail way = n - tail
 
 abbrev Inv-loop : tie.InvT-loop
-Inv-loop n ways order₀ sources tail₀ head₀ order tail head = (head ≤ sources) × (PeeledIn n (nextIn n ways) head sources tail order)
+Inv-loop n ways order₀ sources tail₀ head₀ order tail head = (head ≤ sources) × (PeeledHeld n (nextAs n ways) head sources tail order)
 
 abbrev μ-loop : tie.MeasureT-loop
 μ-loop n ways order₀ sources tail₀ head₀ order tail head = sources - head
 
 -- the source, and where its entry is
-source : (a : tie.After-place Inv-loop2 μ-loop2 Inv-loop μ-loop)
-    → a .place .result ≡ queued (a .before .before .before .loop .order) (a .before .before .before .loop .head)
+source : (a : tie.After-index-of Inv-loop2 μ-loop2 Inv-loop μ-loop)
+    → a .index-of .result ≡ queued (a .before .before .before .loop .order) (a .before .before .before .loop .head)
 unfolding queued
-source a = a .place .ensures
+source a = a .index-of .ensures
 
-source-inside : (a : tie.After-place Inv-loop2 μ-loop2 Inv-loop μ-loop) → a .place .result < a .before .before .before .before .args .n
+source-inside : (a : tie.After-index-of Inv-loop2 μ-loop2 Inv-loop μ-loop) → a .index-of .result < a .before .before .before .before .args .n
 source-inside a =
     let at = a .before .before .before in
     let q = at .loop .inv .1 in
     omega (arith, source a, q .kept .queue .placed (at .loop .head) (omega (arith, q .behind)))
 
-source-below : (a : tie.After-place Inv-loop2 μ-loop2 Inv-loop μ-loop) → a .place .result < 4096
+source-below : (a : tie.After-index-of Inv-loop2 μ-loop2 Inv-loop μ-loop) → a .index-of .result < 4096
 source-below a = omega (arith, source-inside a, a .before .before .before .before .pre .0 .most)
 
-abbrev turn : tie.After-place2 Inv-loop2 μ-loop2 Inv-loop μ-loop → tie.At-loop2 Inv-loop2 μ-loop2 Inv-loop μ-loop
+abbrev turn : tie.After-index-of2 Inv-loop2 μ-loop2 Inv-loop μ-loop → tie.At-loop2 Inv-loop2 μ-loop2 Inv-loop μ-loop
 turn w = w .before
 
-abbrev outer : tie.After-place2 Inv-loop2 μ-loop2 Inv-loop μ-loop → tie.At-loop Inv-loop2 μ-loop2 Inv-loop μ-loop
+abbrev outer : tie.After-index-of2 Inv-loop2 μ-loop2 Inv-loop μ-loop → tie.At-loop Inv-loop2 μ-loop2 Inv-loop μ-loop
 outer w = w .before .before .before .before .before .before
 
-abbrev start : tie.After-place2 Inv-loop2 μ-loop2 Inv-loop μ-loop → tie.Start Inv-loop2 μ-loop2 Inv-loop μ-loop
+abbrev start : tie.After-index-of2 Inv-loop2 μ-loop2 Inv-loop μ-loop → tie.Start Inv-loop2 μ-loop2 Inv-loop μ-loop
 start w = outer w .before
 
-most : (w : tie.After-place2 Inv-loop2 μ-loop2 Inv-loop μ-loop) → start w .args .n ≤ 4096
+most : (w : tie.After-index-of2 Inv-loop2 μ-loop2 Inv-loop μ-loop) → start w .args .n ≤ 4096
 most w = start w .pre .0 .most
 
 -- the cell in hand leads to j
-abbrev Leads : tie.After-place2 Inv-loop2 μ-loop2 Inv-loop μ-loop → ℕ → Type 0
+abbrev Leads : tie.After-index-of2 Inv-loop2 μ-loop2 Inv-loop μ-loop → ℕ → Type 0
 Leads w j =
-    InHand (start w .args .n) (nextIn (start w .args .n) (start w .args .ways .now)) (outer w .loop .head) (start w .args .sources) (turn w .loop2 .tail) j
+    InHand (start w .args .n) (nextAs (start w .args .n) (start w .args .ways .now)) (outer w .loop .head) (start w .args .sources) (turn w .loop2 .tail) j
     (turn w .loop2 .order)
 
-in-hand : (w : tie.After-place2 Inv-loop2 μ-loop2 Inv-loop μ-loop) → Leads w (w .place2 .result)
-in-hand w = subst (Leads w) (sym (w .place2 .ensures)) (turn w .loop2 .inv)
+in-hand : (w : tie.After-index-of2 Inv-loop2 μ-loop2 Inv-loop μ-loop) → Leads w (w .index-of2 .result)
+in-hand w = subst (Leads w) (sym (w .index-of2 .ensures)) (turn w .loop2 .inv)
 
 -- where j is a cell, the queue has room
-room-left : (w : tie.After-place2 Inv-loop2 μ-loop2 Inv-loop μ-loop) → w .place2 .result < start w .args .n → turn w .loop2 .tail < start w .args .n
+room-left : (w : tie.After-index-of2 Inv-loop2 μ-loop2 Inv-loop μ-loop) → w .index-of2 .result < start w .args .n → turn w .loop2 .tail < start w .args .n
 room-left w i = hand-room (in-hand w) (most w) i
 
 loop-holds : tie.Need-loop-holds Inv-loop2 μ-loop2 Inv-loop μ-loop
 loop-holds c = (search needs, c .pre .1)
 
-mul-place : tie.Need-mul-place Inv-loop2 μ-loop2 Inv-loop μ-loop
-mul-place c = search needs
+mul-index-of : tie.Need-mul-index-of Inv-loop2 μ-loop2 Inv-loop μ-loop
+mul-index-of c = search needs
 
-element-copy-out-place : tie.Need-element-copy-out-place Inv-loop2 μ-loop2 Inv-loop μ-loop
-element-copy-out-place c = let q = c .before .loop .inv .1 in
+element-copy-out-index-of : tie.Need-element-copy-out-index-of Inv-loop2 μ-loop2 Inv-loop μ-loop
+element-copy-out-index-of c = let q = c .before .loop .inv .1 in
     omega (arith, q .behind, q .kept .queue .short, c .before .before .pre .0 .most)
 
-place-requires : tie.Need-place-requires Inv-loop2 μ-loop2 Inv-loop μ-loop
-place-requires c κs = search needs
+index-of-requires : tie.Need-index-of-requires Inv-loop2 μ-loop2 Inv-loop μ-loop
+index-of-requires c κs = search needs
 
 mul-way : tie.Need-mul-way Inv-loop2 μ-loop2 Inv-loop μ-loop
 mul-way c = omega (arith, source-below c)
@@ -90,11 +90,11 @@ element-copy-out-way c = source-below c
 loop2-holds : tie.Need-loop2-holds Inv-loop2 μ-loop2 Inv-loop μ-loop
 loop2-holds c = let a = c .before in
     let at = a .before .before .before in
-    rw (way-next (at .before .pre .0) (a .place .result) (source-inside a), source a)
+    rw (way-next (at .before .pre .0) (a .index-of .result) (source-inside a), source a)
     (hand-source (at .loop .inv .1) (a .before .before .loop-test .taken))
 
-place-requires-2 : tie.Need-place-requires-2 Inv-loop2 μ-loop2 Inv-loop μ-loop
-place-requires-2 c κs = search needs
+index-of-requires-2 : tie.Need-index-of-requires-2 Inv-loop2 μ-loop2 Inv-loop μ-loop
+index-of-requires-2 c κs = search needs
 
 mul-onward : tie.Need-mul-onward Inv-loop2 μ-loop2 Inv-loop μ-loop
 mul-onward c = omega (arith, most (c .before))
@@ -125,7 +125,7 @@ element-copy-out-order c = let w = c .before .before .before .before in omega (a
 
 add-order : tie.Need-add-order Inv-loop2 μ-loop2 Inv-loop μ-loop
 add-order c = let w = c .before .before .before .before .before in
-    record { fits = omega (arith, w .place2 .ensures, hand-fits (in-hand w) (most w) (c .before .before .before .before .if1 .left)) }
+    record { fits = omega (arith, w .index-of2 .ensures, hand-fits (in-hand w) (most w) (c .before .before .before .before .if1 .left)) }
 
 element-write-order-2 : tie.Need-element-write-order-2 Inv-loop2 μ-loop2 Inv-loop μ-loop
 element-write-order-2 c = let w = c .before .before .before .before .before in
@@ -141,15 +141,15 @@ loop2-less c = omega (arith, room-left (c .before .before .before .before .befor
 loop2-again : tie.Need-loop2-again Inv-loop2 μ-loop2 Inv-loop μ-loop
 loop2-again c = let w = c .before .before .before .before .before in
     let s = start w .args in
-    let j = w .place2 .result in
+    let j = w .index-of2 .result in
     let i : j < s .n = c .before .before .before .before .if1 .left in
     let l = turn w .loop2 .order in
     let tail = turn w .loop2 .tail in
     let less = set l j (getD l j 0 - 8192) in
-    let joined : ℕ → Type 0 = λ x. InHand (s .n) (nextIn (s .n) (s .ways .now)) (outer w .loop .head) (s .sources) (tail + 1) (nextIn (s .n) (s .ways .now) j)
+    let joined : ℕ → Type 0 = λ x. InHand (s .n) (nextAs (s .n) (s .ways .now)) (outer w .loop .head) (s .sources) (tail + 1) (nextAs (s .n) (s .ways .now) j)
     (set less tail (getD less tail 0 + x)) in
     rw (way-next (start w .pre .0) j i)
-    (subst joined (w .place2 .ensures) (hand-joins (in-hand w) (most w) i (omega (arith, c .before .if2 .left))))
+    (subst joined (w .index-of2 .ensures) (hand-joins (in-hand w) (most w) i (omega (arith, c .before .if2 .left))))
 
 add-head : tie.Need-add-head Inv-loop2 μ-loop2 Inv-loop μ-loop
 add-head c = search needs
@@ -180,13 +180,13 @@ peel-spec =
     Inv-loop
     μ-loop
     loop-holds
-    mul-place
-    element-copy-out-place
-    place-requires
+    mul-index-of
+    element-copy-out-index-of
+    index-of-requires
     mul-way
     element-copy-out-way
     loop2-holds
-    place-requires-2
+    index-of-requires-2
     mul-onward
     element-copy-out-onward
     mul-left

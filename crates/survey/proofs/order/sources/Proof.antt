@@ -6,12 +6,12 @@ use mathlib.Core.Logic.{⊎-elim}
 use Prim.Native.Nat.{_≤_, _-_}
 use native.Mathlib.Omega.{arith}
 use borrow.Author.Needs.{needs}
-use Rattle.survey.specs.Peeling.{waits, GatheredIn}
+use Rattle.survey.specs.Order.{waits, GatheredHeld}
 use Rattle.survey.proofs.GatherLaws.{gather-none, gather-fits, gather-skip, gather-put}
 use Rattle.survey.proofs.order.sources.Tie as tie
 
 abbrev Inv-loop : tie.InvT-loop
-Inv-loop n order₀ tail₀ i₀ order tail i = (i ≤ n) × (GatheredIn n (waits order₀) i tail order)
+Inv-loop n order₀ tail₀ i₀ order tail i = (i ≤ n) × (GatheredHeld n (waits order₀) i tail order)
 
 abbrev μ-loop : tie.MeasureT-loop
 μ-loop n order₀ tail₀ i₀ order tail i = n - i

@@ -6,7 +6,7 @@ use Prim.Native.Nat.{_+_, _*_, _-_, _≤_, _<_}
 use native.Mathlib.Nat.{mul-le-mul-right}
 use native.Mathlib.Omega.{arith}
 use Rattle.paper.specs.Directions.{stepped}
-use Rattle.survey.specs.Routes.{stepOf}
+use Rattle.survey.specs.Ways.{stepOf}
 use Rattle.survey.proofs.DirectionLaws.{near-edge, far-edge, step-to, over-row, over-column, at-cell}
 use Rattle.survey.proofs.ways.toward.Tie as tie
 

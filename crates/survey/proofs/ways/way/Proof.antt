@@ -6,7 +6,7 @@ use borrow.Author.Tests.{ne-eqb}
 use native.Mathlib.Omega.{arith, by-contra}
 use Rattle.paper.specs.Directions.{Way, toward, closed}
 use Rattle.paper.specs.Setup.{pointed}
-use Rattle.survey.specs.Routes.{goesFrom, stepOf, wayIn}
+use Rattle.survey.specs.Ways.{goesFrom, stepOf, wayAs}
 use Rattle.survey.proofs.DirectionLaws.{pointed-closed}
 use Rattle.survey.proofs.ways.way.Statement.{statement}
 use Rattle.survey.proofs.ways.way.Tie as tie
@@ -18,12 +18,12 @@ steps-requires : tie.Need-steps-requires
 steps-requires c κs = search needs
 
 -- closed, or the two steps
-at-twelve : {k : ℕ} {w : Way} → k ≡ 12 → wayIn k ≡ w → w ≡ closed
-unfolding wayIn
-at-twelve e known = sym known ∙ ap wayIn e
+at-twelve : {k : ℕ} {w : Way} → k ≡ 12 → wayAs k ≡ w → w ≡ closed
+unfolding wayAs
+at-twelve e known = sym known ∙ ap wayAs e
 
-both-steps : (k : ℕ) {w : Way} → (k ≡ 12 → ⊥) → wayIn k ≡ w → w ≡ toward (stepOf (k / 4)) (stepOf (k % 4))
-unfolding wayIn
+both-steps : (k : ℕ) {w : Way} → (k ≡ 12 → ⊥) → wayAs k ≡ w → w ≡ toward (stepOf (k / 4)) (stepOf (k % 4))
+unfolding wayAs
 both-steps k not known = sym known ∙ rw (ne-eqb k 12 not) refl
 
 returns : tie.Need-returns

@@ -7,11 +7,11 @@ use native.Mathlib.Omega.{arith}
 use borrow.Author.Needs.{needs}
 use lib.ListN.{getD, replicate}
 use Rattle.text.proofs.FieldLaws.{Filled, filled-none, filled-more, filled-front}
-use Rattle.text.specs.Program.{groupIn}
+use Rattle.text.specs.Program.{groupGiven}
 
 abbrev Inv-loop : tie.InvT-loop
 Inv-loop numbers from count cells₀ i₀ cells i =
-    (i ≤ count) × Filled (λ j. groupIn (getD numbers (from + 4 * j) 0) (getD numbers (from + 4 * j + 2) 0)) i (replicate 4096 0) cells
+    (i ≤ count) × Filled (λ j. groupGiven (getD numbers (from + 4 * j) 0) (getD numbers (from + 4 * j + 2) 0)) i (replicate 4096 0) cells
 
 abbrev μ-loop : tie.MeasureT-loop
 μ-loop numbers from count cells₀ i₀ cells i = count - i

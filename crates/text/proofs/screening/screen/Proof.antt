@@ -6,7 +6,7 @@ use mathlib.Core.Path.{sym, ap, _∙_}
 use Prim.Native.Nat.{_+_, _*_, _≤_}
 use native.Mathlib.Omega.{arith}
 use borrow.Author.Tests.{not-true, not-false}
-use Rattle.paper.specs.Setup.{cellsIn}
+use Rattle.paper.specs.Setup.{cellsOf}
 use Rattle.text.specs.declared.screening.Screened.the-variants.{Refused, Ready}
 use Rattle.text.proofs.ScreenLaws.{few-cells, few-covers, too-few, no-grid, no-covers, bad-count, cut-off, is-ready}
 
@@ -63,12 +63,12 @@ returns-4 c =
 cells-requires : tie.Need-cells-requires
 cells-requires c κs = search needs
 
-place-requires : tie.Need-place-requires
-place-requires c κs = search needs
+index-of-requires : tie.Need-index-of-requires
+index-of-requires c κs = search needs
 
 -- all that is needed is little
-needed-small : (c : tie.After-place) → 5 + 16 * c .place .result + 4 * c .before .cells .result ≤ 17413
-unfolding cellsIn
+needed-small : (c : tie.After-index-of) → 5 + 16 * c .index-of .result + 4 * c .before .cells .result ≤ 17413
+unfolding cellsOf
 needed-small c =
     let at-cells = c .before in
     let at-if4 = at-cells .before in
@@ -78,7 +78,7 @@ needed-small c =
     let a = at-fits .before .before .before .before .before .args in
     omega (
       arith,
-      c .place .ensures,
+      c .index-of .ensures,
       at-cells .cells .ensures,
       few-cells (a .numbers .now) (sym (at-fits .fits2 .ensures) ∙ not-false _ (at-if2 .if2 .left)),
       few-covers (a .numbers .now) (sym (at-covers-fit .covers-fit .ensures) ∙ not-false _ (at-if4 .if4 .left)),
@@ -103,7 +103,7 @@ units-requires-3 : tie.Need-units-requires-3
 units-requires-3 c κs = search needs
 
 returns-5 : tie.Need-returns-5
-unfolding cellsIn
+unfolding cellsOf
 returns-5 c =
     let at-if5 = c .before in
     let at-complete = at-if5 .before in
@@ -118,10 +118,10 @@ returns-5 c =
     let a = at-if1 .before .before .args in
     ap (Refused 11) (c .units3 .ensures)
     ∙ cut-off (a .numbers .now) (at-if1 .if1 .left) (sym (at-fits .fits2 .ensures) ∙ not-false _ (at-if2 .if2 .left)) (at-if3 .if3 .left) (sym (at-covers-fit .covers-fit .ensures) ∙ not-false _ (at-if4 .if4 .left))
-    (rw (at-cells .cells .ensures, at-place .place .ensures) at (sym (at-complete .complete .ensures) ∙ not-true _ (at-if5 .if5 .taken)))
+    (rw (at-cells .cells .ensures, at-place .index-of .ensures) at (sym (at-complete .complete .ensures) ∙ not-true _ (at-if5 .if5 .taken)))
 
 returns-6 : tie.Need-returns-6
-unfolding cellsIn
+unfolding cellsOf
 returns-6 c =
     let at-complete = c .before in
     let at-place = at-complete .before in
@@ -135,7 +135,7 @@ returns-6 c =
     let a = at-if1 .before .before .args in
     ap Ready (at-cells .cells .ensures)
     ∙ is-ready (a .numbers .now) (at-if1 .if1 .left) (sym (at-fits .fits2 .ensures) ∙ not-false _ (at-if2 .if2 .left)) (at-if3 .if3 .left) (sym (at-covers-fit .covers-fit .ensures) ∙ not-false _ (at-if4 .if4 .left))
-    (rw (at-cells .cells .ensures, at-place .place .ensures) at (sym (at-complete .complete .ensures) ∙ not-false _ (c .if5 .left)))
+    (rw (at-cells .cells .ensures, at-place .index-of .ensures) at (sym (at-complete .complete .ensures) ∙ not-false _ (c .if5 .left)))
 
 pub screen-spec : {M : Type 1} → statement M
 screen-spec =
@@ -153,7 +153,7 @@ screen-spec =
     covers-fit-requires
     returns-4
     cells-requires
-    place-requires
+    index-of-requires
     mul-complete
     add-complete
     mul-complete-2

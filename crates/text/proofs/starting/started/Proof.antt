@@ -18,27 +18,27 @@ use Rattle.text.proofs.StartLaws.{five, fits, lent}
 abbrev table : tie.After-column3 → tie.After-table
 table last = last .before .before .before .before
 
-abbrev place : tie.After-column3 → tie.After-place
-place last = table last .before
+abbrev index-of : tie.After-column3 → tie.After-index-of
+index-of last = table last .before
 
-abbrev start : tie.After-place → tie.Start
-start place = place .before .before .before .before
+abbrev start : tie.After-index-of → tie.Start
+start index-of = index-of .before .before .before .before
 
-cells-fit : (place : tie.After-place) → start place .args .cells ≤ 4096
-cells-fit place = fits _ _ (start place .pre .0)
+cells-fit : (index-of : tie.After-index-of) → start index-of .args .cells ≤ 4096
+cells-fit index-of = fits _ _ (start index-of .pre .0)
 
-counted : (place : tie.After-place) → 16 * place .place .result ≡ 16 * coverCount (start place .args .numbers .now)
+counted : (index-of : tie.After-index-of) → 16 * index-of .index-of .result ≡ 16 * coverCount (start index-of .args .numbers .now)
 unfolding coverCount
-counted place = ap (_*_ 16) (place .place .ensures)
+counted index-of = ap (_*_ 16) (index-of .index-of .ensures)
 
-covers-fit : (place : tie.After-place) → 16 * place .place .result ≤ 1024
-covers-fit place = omega (arith, counted place, start place .pre .0 .covers)
+covers-fit : (index-of : tie.After-index-of) → 16 * index-of .index-of .result ≤ 1024
+covers-fit index-of = omega (arith, counted index-of, start index-of .pre .0 .covers)
 
-room : (place : tie.After-place) → 5 + 16 * place .place .result + 4 * start place .args .cells ≤ length (start place .args .numbers .now)
-room place = cell-room _ _ _ (start place .pre .0) (counted place)
+room : (index-of : tie.After-index-of) → 5 + 16 * index-of .index-of .result + 4 * start index-of .args .cells ≤ length (start index-of .args .numbers .now)
+room index-of = cell-room _ _ _ (start index-of .pre .0) (counted index-of)
 
-shared-slice-read-place : tie.Need-shared-slice-read-place
-shared-slice-read-place c = omega (arith, five _ (c .before .before .before .pre .0 .numbers))
+shared-slice-read-index-of : tie.Need-shared-slice-read-index-of
+shared-slice-read-index-of c = omega (arith, five _ (c .before .before .before .pre .0 .numbers))
 
 mul-count : tie.Need-mul-count
 mul-count c = omega (arith, covers-fit c)
@@ -77,16 +77,16 @@ slice-aggregate-begun-5 : tie.Need-slice-aggregate-begun-5
 slice-aggregate-begun-5 c = sym (length-take-le _ _ (c .before .before .before .before .before .column3 .ensures .room))
 
 slice-aggregate-begun-6 : tie.Need-slice-aggregate-begun-6
-slice-aggregate-begun-6 c = part-length _ 4096 (cells-fit (place (c .before .before .before .before .before .before)))
+slice-aggregate-begun-6 c = part-length _ 4096 (cells-fit (index-of (c .before .before .before .before .before .before)))
 
 slice-aggregate-begun-7 : tie.Need-slice-aggregate-begun-7
-slice-aggregate-begun-7 c = part-length _ 4096 (cells-fit (place (c .before .before .before .before .before .before .before)))
+slice-aggregate-begun-7 c = part-length _ 4096 (cells-fit (index-of (c .before .before .before .before .before .before .before)))
 
 begun-requires : tie.Need-begun-requires
 begun-requires c κs = let last = c .before .before .before .before .before .before .before .before in
     let first = table last in
-    let p = start (place last) .pre in (
-      laid _ _ _ (p .0) (counted (place last)) _ _ _ _ _
+    let p = start (index-of last) .pre in (
+      laid _ _ _ (p .0) (counted (index-of last)) _ _ _ _ _
           (first .table .ensures)
           (last .before .before .before .column .ensures)
           (last .before .before .column2 .ensures)
@@ -95,8 +95,8 @@ begun-requires c κs = let last = c .before .before .before .before .before .bef
       lent _ _ (p .0) _ (p .1) (p .2),
     )
 
-place-requires : tie.Need-place-requires
-place-requires c κs = search needs
+index-of-requires : tie.Need-index-of-requires
+index-of-requires c κs = search needs
 
 array-share-prefix-covers : tie.Need-array-share-prefix-covers
 array-share-prefix-covers c = search needs
@@ -129,8 +129,8 @@ pub started-spec : {M : Type 1} → statement M
 started-spec =
     tie.close
     (tie.spec
-    shared-slice-read-place
-    place-requires
+    shared-slice-read-index-of
+    index-of-requires
     mul-count
     add-from
     table-requires

@@ -3,17 +3,17 @@
 use borrow.Author.Needs.{needs}
 use borrow.Author.Tests.{lt-leb, le-leb}
 use Rattle.paper.specs.CurveNumber.{curveNumber}
-use Rattle.weather.specs.Conditions.{curveNumberIn}
+use Rattle.weather.specs.Conditions.{curveNumberBy}
 use Rattle.weather.proofs.TodayLaws.{table-number}
 use Rattle.weather.proofs.conditions.curve_number.Statement.{statement}
 use Rattle.weather.proofs.conditions.curve_number.Tie as tie
 
 returns : tie.Need-returns
-unfolding curveNumberIn
+unfolding curveNumberBy
 returns c = simp (lt-leb _ _ (c .if1 .taken))
 
 returns-2 : tie.Need-returns-2
-unfolding curveNumberIn
+unfolding curveNumberBy
 returns-2 c = simp (le-leb _ _ (c .before .before .if1 .left), lt-leb _ _ (c .if2 .taken))
 
 returns-3 : tie.Need-returns-3

@@ -8,6 +8,12 @@ use Prim.Native.Nat.{ℕ, _+_, _*_, _/_, _%_, _≤_, _<_}
 use lib.Dec.{eqb, leb, ltb}
 use lib.ListN.{length, getD, set}
 use Rattle.theory.specs.Sums.{sum, given}
+use Rattle.theory.specs.Ways.{onRing}
+use Rattle.theory.specs.Lowest.{lowest}
+use Rattle.records.specs.declared.places.Place.{Place}
+use Rattle.records.specs.declared.places.Place.the-variants.{Nowhere}
+use Rattle.records.specs.Places.{placeIn}
+use Rattle.survey.specs.Charts.{OrderedBy}
 
 -- 1 where j leads to i
 unfoldable pub leading : (ℕ → ℕ) → ℕ → ℕ → ℕ
@@ -57,12 +63,12 @@ pub record Queue (n : ℕ) (next waits queued : ℕ → ℕ) (rest : ℕ → Boo
   pub earlier : (t j : ℕ) → t < tail → j < n → next j ≡ queued t → (u : ℕ) × (u < t) × (queued u ≡ j)
 
 -- the array that holds such a queue: nothing stands past its end
-pub record GatheredIn (n : ℕ) (counts : ℕ → ℕ) (k tail : ℕ) (l : List ℕ) : Type 0 where
+pub record GatheredHeld (n : ℕ) (counts : ℕ → ℕ) (k tail : ℕ) (l : List ℕ) : Type 0 where
   pub sized : length l ≡ 4096
   pub queue : Gathered n counts (waits l) (queued l) k tail
   pub blank : (t : ℕ) → tail ≤ t → t < n → queued l t ≡ 0
 
-pub record QueueIn (n : ℕ) (next : ℕ → ℕ) (rest : ℕ → Bool) (tail : ℕ) (l : List ℕ) : Type 0 where
+pub record QueueHeld (n : ℕ) (next : ℕ → ℕ) (rest : ℕ → Bool) (tail : ℕ) (l : List ℕ) : Type 0 where
   pub sized : length l ≡ 4096
   pub queue : Queue n next (waits l) (queued l) rest tail
   pub blank : (t : ℕ) → tail ≤ t → t < n → queued l t ≡ 0
@@ -72,8 +78,13 @@ unfoldable pub ahead : ℕ → ℕ → ℕ → Bool
 ahead head sources t = leb head t && ltb t sources
 
 -- the queue with the first `head` sources taken, and each cell that joined it after the sources
-pub record PeeledIn (n : ℕ) (next : ℕ → ℕ) (head sources tail : ℕ) (l : List ℕ) : Type 0 where
+pub record PeeledHeld (n : ℕ) (next : ℕ → ℕ) (head sources tail : ℕ) (l : List ℕ) : Type 0 where
   pub rest : ℕ → Bool
-  pub kept : QueueIn n next rest tail l
+  pub kept : QueueHeld n next rest tail l
   pub behind : sources ≤ tail
   pub still : (t : ℕ) → t < tail → rest (queued l t) ≡ ahead head sources t
+
+-- the lowest cell on a ring; and where there is none, the order
+pub record OrderOrRing (n : ℕ) (next : ℕ → ℕ) (r : Place) (l : List ℕ) : Type 0 where
+  pub ring : r ≡ placeIn (lowest n (onRing n next))
+  pub ordered : r ≡ Nowhere → OrderedBy n next l
