@@ -5,7 +5,7 @@ use Prim.Native.Nat.{ℕ, _+_, _*_, _≤_}
 use native.Mathlib.Nat.{add-zero}
 use native.Mathlib.Omega.{arith}
 use lib.ListN.{length, getD, take}
-use Rattle.text.specs.Program.{coverCount, groupGiven, cellCount, cellsFrom, daysFrom, setup}
+use Rattle.text.specs.Program.{coverCount, groupGiven, cellsFrom, daysFrom, setup}
 use Rattle.text.specs.Laying.{Front, Laid}
 use Rattle.text.specs.Run.{Complete}
 

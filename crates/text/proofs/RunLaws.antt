@@ -1,7 +1,7 @@
 -- A run's text, day by day: what stands in the buffer, with the text of the days that are left written after it, is the whole text. Each day begins
 -- with the state and the results that the day before left.
 use mathlib.Core.Path.{_≡_, refl, sym, ap, _∙_}
-use mathlib.Core.List.{List, [], _∷_, _++_}
+use mathlib.Core.List.{List, _∷_, _++_}
 use Prim.Native.Nat.{ℕ, suc, _+_, _-_, _*_, _/_, _≤_, _<_}
 use native.Mathlib.Numerals.{add-one}
 use native.Mathlib.Omega.{arith}

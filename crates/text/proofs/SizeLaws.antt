@@ -9,11 +9,10 @@ use lib.Dec.{eqb, ltb}
 use lib.ListN.{getD}
 use borrow.Author.Tests.{ltb-true}
 use Rattle.theory.proofs.Cases.{byCases}
-use Rattle.text.specs.Words.{isBlank, isDigit, reading, negatives, codes}
+use Rattle.text.specs.Words.{isBlank, isDigit, negatives, codes}
 use Rattle.text.specs.Reader.{withDigit, withMinus, withByte, endOf, Found, after, found, Sized, weight}
 use Rattle.text.specs.declared.reading.Begun.{Begun}
 use Rattle.text.specs.declared.reading.Begun.the-variants.{Nothing, Minus, Zero, Plain, Below, Spoilt}
-use Rattle.text.specs.declared.reading.Ended.{Ended}
 use Rattle.text.specs.declared.reading.Ended.the-variants as ended
 use Rattle.text.proofs.WordLaws.{digit-high}
 

@@ -1,5 +1,5 @@
 -- A run's start: the slices laid out are the paper's setup, and the fresh state on them, or its refusal, decides the whole text.
-use mathlib.Core.Path.{_≡_, refl, sym, ap, _∙_}
+use mathlib.Core.Path.{_≡_, sym, ap, _∙_}
 use mathlib.Core.List.{List}
 use Prim.Native.Nat.{ℕ, _+_, _*_, _≤_}
 use native.Mathlib.Omega.{arith}

@@ -1,7 +1,7 @@
 -- `fields::column` meets its contract: the front of the cells is filled by the rule as far as the loop has come.
 use Rattle.text.proofs.fields.column.Statement.{statement}
 use Rattle.text.proofs.fields.column.Tie as tie
-use mathlib.Core.Path.{_≡_, refl}
+use mathlib.Core.Path.{refl}
 use Prim.Native.Nat.{_+_, _*_, _-_, _≤_}
 use native.Mathlib.Omega.{arith}
 use borrow.Author.Needs.{needs}

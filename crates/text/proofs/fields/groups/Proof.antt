@@ -1,7 +1,6 @@
 -- `fields::groups` meets its contract: the front of the cells is filled by the rule as far as the loop has come.
 use Rattle.text.proofs.fields.groups.Statement.{statement}
 use Rattle.text.proofs.fields.groups.Tie as tie
-use mathlib.Core.Path.{_≡_}
 use Prim.Native.Nat.{_+_, _*_, _-_, _≤_}
 use native.Mathlib.Omega.{arith}
 use borrow.Author.Needs.{needs}

@@ -1,7 +1,7 @@
 -- `fields::table` meets its contract: the front of the table is filled by the rule as far as the loop has come.
 use Rattle.text.proofs.fields.table.Statement.{statement}
 use Rattle.text.proofs.fields.table.Tie as tie
-use mathlib.Core.Path.{_≡_, refl}
+use mathlib.Core.Path.{refl}
 use Prim.Native.Nat.{_+_, _-_, _≤_}
 use native.Mathlib.Omega.{arith}
 use borrow.Author.Needs.{needs}

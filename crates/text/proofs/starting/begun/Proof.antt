@@ -3,9 +3,7 @@ use borrow.Author.Needs.{needs}
 use Rattle.text.proofs.starting.begun.Statement.{statement}
 use Rattle.text.proofs.starting.begun.Tie as tie
 use mathlib.Core.Path.{ap}
-use Prim.Native.Nat.{_≤_}
 use native.Mathlib.Omega.{arith}
-use lib.ListN.{length}
 use Rattle.records.specs.Verdicts.{verdictAs}
 use Rattle.text.proofs.PrintedLaws.{whole-text}
 use Rattle.text.proofs.StartLaws.{five, days-ready, start-refused, start-runs}
