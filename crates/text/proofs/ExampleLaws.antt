@@ -23,9 +23,12 @@ use Rattle.paper.specs.Snow.{fallsAsSnow, aboveFreezing, meltable, melt}
 use Rattle.paper.specs.Soil.{surplus, wetDay, dryDay, soilDay}
 use Rattle.paper.specs.State.{remembered, fiveDays, mostSoilOf, mostSnowOf, storesFit, memoryFits, lastFits, pastFits, dayFits, follows, freshState}
 use Rattle.text.specs.Examples.{lines, Agree, paperInput, examples}
-use Rattle.text.specs.Lines.{digitsWithin, digits, row, dayLine, bytes, endLine, refusedLine}
-use Rattle.text.specs.Program.{coverCount, cellCount, cellsFrom, daysFrom, dayCount, isComplete, groupGiven, setup, dayAt, refusal, noResults, dayText, daysText, freshText, startText, runText, screen, screenText, numbersText, formText, printed}
-use Rattle.text.specs.Words.{isBlank, longer, pieces, kept, words, isDigit, allDigits, spelled, isFirstDigit, isCount, isZero, number, andThen, meant, reading, code, codes, signed}
+use Rattle.words.specs.Digits.{digitsWithin, digits, bytes}
+use Rattle.lines.specs.Lines.{row, dayLine, endLine, refusedLine, refusal}
+use Rattle.text.specs.Program.{coverCount, cellCount, cellsFrom, daysFrom, dayCount, isComplete, groupGiven, setup, dayAt, noResults, dayText, daysText, freshText, startText, runText, screen, screenText, numbersText, formText, printed}
+use Rattle.words.specs.Words.{isBlank, longer, pieces, kept, words}
+use Rattle.words.specs.Numbers.{isDigit, allDigits, spelled, isFirstDigit, isCount, isZero, number}
+use Rattle.lines.specs.Reading.{andThen, meant, reading, code, codes, signed}
 
 pub paper-read :
     reading (lines paperInput)

@@ -1,8 +1,3 @@
-pub mod WordLaws
-pub mod SizeLaws
-pub mod ReaderLaws
-pub mod DigitLaws
-pub mod WritingLaws
 pub mod ExampleLaws
 pub mod FieldLaws
 pub mod SignLaws

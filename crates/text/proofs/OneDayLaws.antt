@@ -1,24 +1,19 @@
--- One day of the program, from its seven numbers to its line: the results are lent from arrays, whose fronts hold what the day before left, the
--- numbers are the paper's record, and what the verdict says is what was written.
+-- One day of the program: the results are lent from arrays, whose fronts hold what the day before left, and the day's seven numbers are the paper's
+-- record.
 use mathlib.Core.Path.{_≡_, refl, sym, ap, _∙_}
 use mathlib.Core.List.{List, _∷_, _++_}
 use Prim.Native.Nat.{ℕ, zero, suc, _+_, _*_, _≤_}
 use native.Mathlib.Nat.{not-suc-le-zero, le-of-suc-le-suc}
-use native.Mathlib.Omega.{arith}
 use lib.IntN.{ℤ}
 use lib.ListN.{length, getD, take, drop, replicate, length-replicate}
 use lib.Seq.{length-take-le, length-front, take-at}
 use mir.Syntax.{w32}
 use mir.Val.{toZ, ofZ}
-use Rattle.paper.specs.Day.{Results, Totals}
-use Rattle.paper.specs.Refusals.{Verdict, accepted, refused, Refusal}
+use Rattle.paper.specs.Day.{Results}
 use Rattle.records.specs.Answers.{resultsAs}
-use Rattle.text.specs.Words.{signed}
-use Rattle.text.specs.Lines.{dayLine}
-use Rattle.text.specs.Program.{daysFrom, dayAt, refusal, noResults}
-use Rattle.text.specs.Run.{Coded, lineOf, toldAs, Tells}
-use Rattle.text.specs.Writing.{Wrote}
-use Rattle.text.specs.declared.days.Told.the-variants.{More, Last}
+use Rattle.lines.specs.Reading.{signed}
+use Rattle.text.specs.Program.{daysFrom, dayAt, noResults}
+use Rattle.text.specs.Run.{Coded}
 use Rattle.text.proofs.SignLaws.{signed-kept}
 
 -- a part of an array of zeros is zeros, and has its own length
@@ -107,19 +102,3 @@ module _ (ns : List ℕ) (coded : Coded ns) (from k : ℕ) (start : from ≡ day
   unfolding dayAt
   day-fields gross potential minimum mean maximum a b c d e =
       rw (degrees minimum (place 3) b, degrees mean (place 4) c, degrees maximum (place 5) d, a, e, start) refl
-
--- a day's line, and its refusal, as they are told
-pub tells-line :
-    (v : Verdict) (t : Totals) (at serial : ℕ) (before after : List ℕ) (next : ℕ) → v ≡ accepted
-    → Wrote 168 at (dayLine serial t) before after next
-    → Tells at serial t v before after (More next)
-unfolding lineOf toldAs
-tells-line v t at serial before after next e w = rw e (record { result = ap More (w .end); buffer = w .buffer; short = w .short })
-
-pub tells-refusal :
-    (v : Verdict) (t : Totals) (at serial : ℕ) (why : Refusal) (before after : List ℕ) (next : ℕ) → v ≡ refused why
-    → Wrote 53 at (refusal why) before after next
-    → Tells at serial t v before after (Last next)
-unfolding lineOf toldAs
-tells-refusal v t at serial why before after next e w =
-    rw e (record { result = ap Last (w .end); buffer = w .buffer; short = omega (arith, w .short) })

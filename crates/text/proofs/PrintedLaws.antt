@@ -4,23 +4,23 @@ use mathlib.Core.Bool.{Bool, true, false}
 use mathlib.Core.List.{List}
 use Prim.Native.Nat.{ℕ, _≤_, _<_}
 use native.Mathlib.Omega.{arith}
+use lib.Dec.{ltb}
 use lib.ListN.{length, take, replicate, length-replicate}
 use lib.Seq.{length-sets}
 use borrow.Author.Tests.{lt-ltb, le-ltb}
-use Rattle.theory.proofs.Cases.{below-or-not}
-use Rattle.text.specs.Words.{reading, codes}
-use Rattle.text.specs.Lines.{refusedLine}
-use Rattle.text.specs.Program.{mostBytes, runText, screen, screenText, numbersText, formText, printed}
-use Rattle.text.specs.Reader.{Read, formAs}
+use Rattle.theory.proofs.Cases.{byCases, below-or-not}
+use Rattle.lines.specs.Lines.{refusedLine}
+use Rattle.text.specs.Program.{runText, screen, screenText, numbersText, formText, printed}
+use Rattle.lines.specs.Reading.{mostBytes, given, codes, mostNumbers, formAs, Read}
 use Rattle.text.specs.Run.{mostText, Coded, Printed}
-use Rattle.text.specs.Writing.{Wrote}
-use Rattle.text.specs.declared.reading.Form.{Form}
-use Rattle.text.specs.declared.reading.Form.the-variants.{Whole, Broken}
+use Rattle.lines.specs.Writing.{Wrote}
+use Rattle.lines.specs.declared.reading.Form.{Form}
+use Rattle.lines.specs.declared.reading.Form.the-variants.{Whole, Broken}
 use Rattle.text.specs.declared.screening.Screened.the-variants.{Refused, Ready}
 use Rattle.text.specs.declared.program.Written.{Written}
 use Rattle.text.specs.declared.program.Written.the-variants.{NoRoom, Bytes}
-use Rattle.text.proofs.ReaderLaws.{codes-length, front, codes-small}
-use Rattle.text.proofs.WritingLaws.{wrote-as}
+use Rattle.lines.proofs.ReadingLaws.{codes-length, front, codes-small}
+use Rattle.lines.proofs.WritingLaws.{wrote-as}
 
 -- what a function wrote is the whole text
 pub whole-text :
@@ -38,20 +38,21 @@ module _ (ns : List ℕ) where
   numbers-run cells e = rw e refl
 
 module _ (input : List ℕ) where
-  pub too-long : mostBytes < length input → printed input ≡ refusedLine 11 0
-  unfolding printed
-  too-long h = rw (lt-ltb mostBytes (length input) h) refl
+  -- length first, then form: of a text that is too long no number is read
+  of-given : printed input ≡ formText (given input)
+  unfolding printed formText given
+  of-given = byCases (ltb mostBytes (length input)) (λ e. rw e refl) (λ e. rw e refl)
 
-  good-form : length input ≤ mostBytes → reading input .whole ≡ true → printed input ≡ numbersText (codes (reading input .numbers))
-  unfolding printed formText
-  good-form short e = rw (le-ltb mostBytes (length input) short, e) refl
+  good-form : given input .whole ≡ true → printed input ≡ numbersText (codes (given input .numbers))
+  unfolding formText
+  good-form e = of-given ∙ rw e refl
 
-  bad-form : length input ≤ mostBytes → reading input .whole ≡ false → printed input ≡ refusedLine 11 (length (reading input .numbers))
-  unfolding printed formText
-  bad-form short e = rw (le-ltb mostBytes (length input) short, e) refl
+  bad-form : given input .whole ≡ false → printed input ≡ refusedLine 11 (length (given input .numbers))
+  unfolding formText
+  bad-form e = of-given ∙ rw e refl
 
   -- the input read into an array of zeros
-  module _ (after : List ℕ) (r : Form) (count : ℕ) (read : Read input (replicate 32768 0) after r) where
+  module _ (after : List ℕ) (r : Form) (count : ℕ) (read : Read (given input) (replicate mostNumbers 0) after r) where
     pub record Counted (text : List ℕ) : Type 0 where
       pub room : count ≤ length after
       pub counted : count ≡ length (take count after)
@@ -68,25 +69,25 @@ module _ (input : List ℕ) where
     of-fault true n e = absurd (let z : _≡_ {A = ℕ} 0 1 = cc in omega arith)
     of-fault false n e = (refl, (cc))
 
-    pub read-whole : length input ≤ mostBytes → r ≡ Whole count → Counted (printed input)
-    read-whole short e =
-        let f = of-form (reading input .whole) (length (reading input .numbers)) (sym (read .form) ∙ e) in
-        let zeros = length-replicate {A = ℕ} 32768 0 in
-        let same : take count after ≡ codes (reading input .numbers) =
-        ap (λ (n : ℕ). take n after) (sym (f .1)) ∙ front input (replicate 32768 0) after r zeros read
+    pub read-whole : r ≡ Whole count → Counted (printed input)
+    read-whole e =
+        let f = of-form (given input .whole) (length (given input .numbers)) (sym (read .form) ∙ e) in
+        let zeros = length-replicate {A = ℕ} mostNumbers 0 in
+        let same : take count after ≡ codes (given input .numbers) =
+        ap (λ (n : ℕ). take n after) (sym (f .1)) ∙ front (given input) (replicate mostNumbers 0) after r zeros read
         in
-        let long : length after ≡ 32768 = ap length (read .numbers) ∙ length-sets (replicate 32768 0) 0 (codes (reading input .numbers)) ∙ zeros in
+        let long : length after ≡ mostNumbers = ap length (read .numbers) ∙ length-sets (replicate mostNumbers 0) 0 (codes (given input .numbers)) ∙ zeros in
         record {
           room = omega (arith, read .few, f .1);
-          counted = sym (ap length same ∙ codes-length (reading input .numbers) ∙ f .1);
-          coded = rw same (record { few = omega (arith, codes-length (reading input .numbers), read .few); small = codes-small input });
-          whole = good-form short (f .0) ∙ ap numbersText (sym same);
+          counted = sym (ap length same ∙ codes-length (given input .numbers) ∙ f .1);
+          coded = rw same (record { few = omega (arith, codes-length (given input .numbers), read .few); small = codes-small input });
+          whole = good-form (f .0) ∙ ap numbersText (sym same);
         }
 
-    pub read-broken : length input ≤ mostBytes → r ≡ Broken count → printed input ≡ refusedLine 11 count
-    read-broken short e =
-        let f = of-fault (reading input .whole) (length (reading input .numbers)) (sym (read .form) ∙ e) in
-        bad-form short (f .0) ∙ ap (refusedLine 11) (f .1)
+    pub read-broken : r ≡ Broken count → printed input ≡ refusedLine 11 count
+    read-broken e =
+        let f = of-fault (given input .whole) (length (given input .numbers)) (sym (read .form) ∙ e) in
+        bad-form (f .0) ∙ ap (refusedLine 11) (f .1)
 
   pub no-room : (before : List ℕ) → length before < mostText → Printed input before before NoRoom
   no-room before h =
@@ -100,10 +101,10 @@ module _ (input : List ℕ) where
       (before after : List ℕ) (next : ℕ) → mostText ≤ length before → Wrote mostText 0 (printed input) before after next
       → Printed input before after (Bytes next)
   with-room before after next h w =
-      let count : next ≡ length (printed input) = omega (arith, w .end) in
+      let count : next ≡ length (printed input) = omega (arith, w .put .end, w .short) in
       record {
         answer = rw (le-ltb (length before) mostText h) (ap Bytes count);
-        buffer = rw (le-ltb (length before) mostText h) (w .buffer);
+        buffer = rw (le-ltb (length before) mostText h) (w .put .buffer);
         short = λ room. w .short;
       }
 

@@ -6,34 +6,39 @@ use Prim.Native.Nat.{ℕ, suc, _+_, _-_, _*_, _/_, _≤_, _<_}
 use native.Mathlib.Numerals.{add-one}
 use native.Mathlib.Omega.{arith}
 use lib.ListN.{length, drop, length-append, drop-of-length-le}
-use lib.Seq.{sets, length-sets, drop-cons}
+use lib.Seq.{sets, drop-cons}
 use Rattle.theory.specs.Lists.{made}
 use Rattle.theory.proofs.ListLaws.{made-length, made-at}
 use Rattle.paper.specs.Day.{Results, Outcome, Totals, dayOf}
 use Rattle.paper.specs.Refusals.{Refusal, Verdict, accepted, refused}
 use Rattle.paper.specs.Setup.{Setup}
 use Rattle.paper.specs.State.{State, Day}
-use Rattle.text.specs.Lines.{dayLine, endLine}
-use Rattle.text.specs.Program.{daysFrom, dayCount, dayAt, refusal, dayText, daysText}
-use Rattle.text.specs.Run.{mostText, Coded, lineOf, toldAs, Tells}
-use Rattle.text.specs.Writing.{Wrote}
-use Rattle.text.specs.declared.days.Told.{Told}
-use Rattle.text.specs.declared.days.Told.the-variants.{More, Last}
-use Rattle.text.proofs.WritingLaws.{sets-append}
+use Rattle.lines.specs.Lines.{dayLine, endLine, refusal}
+use Rattle.text.specs.Program.{daysFrom, dayCount, dayAt, dayText, daysText}
+use Rattle.text.specs.Run.{mostText, Coded}
+use Rattle.lines.specs.Telling.{lineOf, toldAs, Tells}
+use Rattle.lines.specs.Writing.{mostLine, mostEnd, Wrote}
+use Rattle.lines.specs.declared.telling.Told.{Told}
+use Rattle.lines.specs.declared.telling.Told.the-variants.{More, Last}
+use Rattle.words.proofs.WritingLaws.{sets-append}
+use Rattle.lines.proofs.WritingLaws.{wrote-length}
 
 -- `rest`, written from `at` on, makes the whole text of the buffer
 pub record Onward (whole before now : List ℕ) (at : ℕ) (rest : List ℕ) : Type 0 where
   pub stored : sets before 0 whole ≡ sets now at rest
   pub counted : length whole ≡ at + length rest
 
+-- a place below the farthest is where the bytes end
+exactly : {most at next : ℕ} {xs now after : List ℕ} → Wrote most at xs now after next → at + most ≤ mostText → next ≡ at + length xs
+exactly w h = omega (arith, w .put .end, w .short)
+
 onward-then :
-    {whole before now : List ℕ} {at : ℕ} (xs ys : List ℕ) → Onward whole before now at (xs ++ ys)
-    → Onward whole before (sets now at xs) (at + length xs) ys
-onward-then {whole} {before} {now} {at} xs ys o =
-    record {
-      stored = o .stored ∙ sets-append xs ys now at;
-      counted = o .counted ∙ omega (arith, length-append xs ys);
-    }
+    {whole before now after : List ℕ} {at most next : ℕ} (xs ys : List ℕ) → Onward whole before now at (xs ++ ys) → Wrote most at xs now after next
+    → at + most ≤ mostText
+    → Onward whole before after next ys
+onward-then {now = now} {at = at} xs ys o w h =
+    rw (exactly w h, w .put .buffer)
+    (record { stored = o .stored ∙ sets-append xs ys now at; counted = o .counted ∙ omega (arith, length-append xs ys) })
 
 onward-end :
     {whole before now after : List ℕ} {at most next : ℕ} {xs : List ℕ} → Onward whole before now at xs → Wrote most at xs now after next
@@ -41,15 +46,14 @@ onward-end :
     → Wrote mostText 0 whole before after next
 onward-end o w h =
     record {
-      buffer = w .buffer ∙ sym (o .stored);
-      end = omega (arith, w .end, o .counted);
+      put = record { buffer = w .put .buffer ∙ sym (o .stored); end = omega (arith, exactly w h, w .short, o .counted) };
       short = omega (arith, w .short, o .counted);
     }
 
 -- where a run stands in its text before day k
 pub record Underway (s : Setup) (st₀ : State) (r₀ : Results) (ds : List Day) (before now : List ℕ) (st : State) (r : Results) (at done k : ℕ) : Type 0 where
   pub counted : done ≡ k
-  pub placed : at ≤ 168 * k
+  pub placed : at ≤ mostLine * k
   pub long : length now ≡ length before
   pub text : Onward (daysText s st₀ r₀ 0 ds) before now at (daysText s st r k (drop k ds))
 
@@ -72,7 +76,7 @@ module _ (ns : List ℕ) (s : Setup) (st₀ : State) (r₀ : Results) (before no
 
   module _ (u : Underway s st₀ r₀ days before now st r at done k) where
     pub all-told :
-        (after : List ℕ) (next : ℕ) → dayCount ns ≤ k → k ≤ dayCount ns → Wrote 25 at (endLine done) now after next
+        (after : List ℕ) (next : ℕ) → dayCount ns ≤ k → k ≤ dayCount ns → Wrote mostEnd at (endLine done) now after next
         → Wrote mostText 0 (daysText s st₀ r₀ 0 days) before after next
     unfolding daysText
     all-told after next h h′ w =
@@ -104,9 +108,8 @@ module _ (ns : List ℕ) (s : Setup) (st₀ : State) (r₀ : Results) (before no
       told-last accepted left t st′ after told next e w is = absurd (let result = w .result in let z : _≡_ {A = ℕ} 0 1 = cc in omega arith)
       told-last (refused why) left t st′ after told next e w is =
           let result = w .result in
-          onward-end {at = at} {most = 168} {next = next}
-          (rw (last-text why (ap (λ (o : Outcome). o .verdict) e)) at (u .text))
-          (record { buffer = w .buffer; end = (cc); short = w .short })
+          let same : w .next ≡ next = cc in
+          onward-end (rw (last-text why (ap (λ (o : Outcome). o .verdict) e)) at (u .text)) (rw same at (w .line))
           (omega (arith, u .placed, few-days ns coded))
 
       pub told-more :
@@ -117,13 +120,15 @@ module _ (ns : List ℕ) (s : Setup) (st₀ : State) (r₀ : Results) (before no
       unfolding lineOf toldAs
       told-more accepted left held t st′ after told next same e w is =
           let result = w .result in
-          let end : next ≡ at + length (dayLine (d .serial) t) = cc in
+          let same-next : w .next ≡ next = cc in
+          let line : Wrote mostLine at (dayLine (d .serial) t) now after next = rw same-next at (w .line) in
+          let room : at + mostLine ≤ mostText = omega (arith, u .placed, few-days ns coded) in
           record {
             counted = ap (λ (i : ℕ). i + 1) (u .counted);
-            placed = omega (arith, end, w .short, u .placed);
-            long = ap length (w .buffer) ∙ length-sets now at (dayLine (d .serial) t) ∙ u .long;
+            placed = omega (arith, exactly line room, line .short, u .placed);
+            long = wrote-length line ∙ u .long;
             text =
-                rw (add-one k, end, w .buffer, same)
-                (onward-then (dayLine (d .serial) t) (daysText s st′ left (suc k) (drop (suc k) days)) (rw (more-text _ e refl) at (u .text)));
+                rw (add-one k, same)
+                (onward-then (dayLine (d .serial) t) (daysText s st′ left (suc k) (drop (suc k) days)) (rw (more-text _ e refl) at (u .text)) line room);
           }
       told-more (refused why) left held t st′ after told next same e w is = absurd (let result = w .result in let z : _≡_ {A = ℕ} 0 1 = cc in omega arith)

@@ -10,7 +10,7 @@ use mir.Val.{SFits, toZ, ofZ}
 use mir.Facts.{toZ-ofZ, toZ-pos}
 use borrow.Author.Tests.{lt-ltb, le-ltb}
 use Rattle.theory.proofs.Cases.{below-or-not}
-use Rattle.text.specs.Words.{negatives, code, signed}
+use Rattle.lines.specs.Reading.{negatives, code, signed}
 
 below-zero : (c : ℕ) → negatives < c → pos 1000000000 -ℤ pos c ≡ negsuc (c - (negatives + 1))
 below-zero zero h = absurd (not-suc-le-zero h)

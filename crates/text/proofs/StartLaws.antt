@@ -13,9 +13,10 @@ use Rattle.paper.specs.State.{State}
 use Rattle.records.specs.Grids.{setupAs}
 use Rattle.records.specs.declared.grids.Grid.{Grid}
 use Rattle.records.specs.declared.grids.Season.{Season}
+use Rattle.lines.specs.Lines.{refusal}
 use Rattle.text.specs.Laying.{gridIn, seasonIn, Laid}
-use Rattle.text.specs.Program.{coverCount, cellCount, cellsFrom, daysFrom, dayCount, dayAt, setup, refusal, noResults, daysText, freshText, startText, runText}
-use Rattle.text.specs.Run.{mostText, Coded, Complete, Lent, DaysReady}
+use Rattle.text.specs.Program.{coverCount, cellCount, cellsFrom, daysFrom, dayCount, dayAt, setup, noResults, daysText, freshText, startText, runText}
+use Rattle.text.specs.Run.{Coded, Complete, Lent, DaysReady}
 use Rattle.text.proofs.OneDayLaws.{zeros}
 
 pub five : (ns : List ℕ) → daysFrom ns ≤ length ns → 5 ≤ length ns
@@ -30,21 +31,20 @@ module _ (ns : List ℕ) (cells : ℕ) (c : Complete ns cells) where
   abbrev part : List ℕ
   part = take cells (replicate 4096 0)
 
-  pub lent : (output : List ℕ) → Coded ns → mostText ≤ length output → Lent ns part part output
-  lent output coded room =
+  pub lent : Coded ns → Lent ns part part
+  lent coded =
       record {
         coded = coded;
         numbers = c .numbers;
         few = c .cells;
         soils = zeros cells 4096 fits ∙ ap (λ (n : ℕ). replicate n 0) (c .counted);
         snows = zeros cells 4096 fits ∙ ap (λ (n : ℕ). replicate n 0) (c .counted);
-        room = room;
       }
 
 module _
-    (ns covers direction cover group water soil snow output : List ℕ)
+    (ns covers direction cover group water soil snow : List ℕ)
     (laid : Laid ns covers direction cover group water)
-    (lent : Lent ns soil snow output)
+    (lent : Lent ns soil snow)
   where
     table-length : length covers ≡ 16 * coverCount ns
     unfolding setup
@@ -54,7 +54,7 @@ module _
     unfolding setup
     each = ap length (laid .directions) ∙ made-length _ _
 
-    pub days-ready : DaysReady ns (5 + length covers + 4 * length direction) direction output
+    pub days-ready : DaysReady ns (5 + length covers + 4 * length direction) direction
     unfolding daysFrom cellsFrom cellCount
     days-ready =
         record {
@@ -62,7 +62,6 @@ module _
           start = omega (arith, table-length, each);
           numbers = lent .numbers;
           few = omega (arith, each, lent .few);
-          room = lent .room;
         }
 
     module _ (grid : Grid) (season : Season) (gridded : grid ≡ gridIn ns) (seasoned : season ≡ seasonIn ns) where

@@ -3,7 +3,7 @@ use mathlib.Core.Path.{_≡_}
 use mathlib.Core.List.{List, [], _∷_, _++_}
 use Prim.Native.Nat.{ℕ}
 use Prim.Native.String.{String}
-use Rattle.text.specs.Lines.{bytes}
+use Rattle.words.specs.Digits.{bytes}
 use Rattle.text.specs.Program.{printed}
 
 -- each line ended by a line feed

@@ -1,9 +1,5 @@
--- The program's text: words and numbers, decimal printing, and the whole of what is printed for an input.
-pub mod Words
-pub mod Lines
+-- The program's text: the whole of what is printed for an input.
 pub mod Program
-pub mod Reader
-pub mod Writing
 pub mod Examples
 pub mod Laying
 pub mod Run

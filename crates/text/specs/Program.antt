@@ -9,15 +9,12 @@ use Rattle.theory.specs.Lists.{made}
 use Rattle.paper.specs.Limits.{within, mostCovers}
 use Rattle.paper.specs.Setup.{Setup, cells, gridFits}
 use Rattle.paper.specs.State.{State, Day}
-use Rattle.paper.specs.Refusals.{Verdict, accepted, refused, Refusal, numberOf, placeOf}
+use Rattle.paper.specs.Refusals.{Verdict, accepted, refused}
 use Rattle.paper.specs.Day.{Results, Outcome, Fresh, freshOf, dayOf}
-use Rattle.text.specs.Words.{Reading, reading, negatives, codes, signed}
+use Rattle.lines.specs.Reading.{Reading, reading, mostBytes, negatives, codes, signed}
 use Rattle.text.specs.declared.screening.Screened.{Screened}
 use Rattle.text.specs.declared.screening.Screened.the-variants.{Refused, Ready}
-use Rattle.text.specs.Lines.{dayLine, endLine, refusedLine}
-
-abbrev pub mostBytes : ℕ
-mostBytes = 65536
+use Rattle.lines.specs.Lines.{dayLine, endLine, refusedLine, refusal}
 
 -- a negative direction is a fault of its cell: its group then stands as 0, which is outside 1 to 4
 unfoldable pub groupGiven : ℕ → ℕ → ℕ
@@ -74,9 +71,6 @@ module _ (ns : List ℕ) where
         maximum = temperature (daysFrom + 7 * k + 5);
         potential = field (daysFrom + 7 * k + 6);
       }
-
-unfoldable pub refusal : Refusal → List ℕ
-refusal why = refusedLine (numberOf why) (placeOf why)
 
 -- stores and results of one entry a cell, before the first day
 unfoldable pub noResults : ℕ → Results

@@ -6,17 +6,14 @@ ghost use Rattle.theory.specs.Lists.{made};
 ghost use Rattle.records.specs.Grids.{setupAs};
 ghost use Rattle.records.specs.Past.{stateAs};
 ghost use Rattle.records.specs.Days.{dayAs};
-ghost use Rattle.records.specs.Verdicts.{verdictAs};
-ghost use Rattle.records.specs.Answers.{totalsAs};
 ghost use Rattle.text.specs.Program.{daysFrom, dayCount, dayAt, noResults, daysText};
-ghost use Rattle.text.specs.Run.{Coded, DaysReady, Tells, mostText};
-ghost use Rattle.text.specs.Writing.{Wrote};
+ghost use Rattle.text.specs.Run.{Coded, DaysReady, mostText};
+ghost use Rattle.lines.specs.Writing.{Wrote};
 use crate::fields::DAY_NUMBERS;
 use crate::fields::tenths;
-use crate::refusals::refusal;
-use crate::writing::ended;
-use crate::writing::line;
-use records::Answer;
+use lines::Told;
+use lines::ended;
+use lines::tell;
 use records::DayRecord;
 use records::Depth;
 use records::Grid;
@@ -24,14 +21,7 @@ use records::MOST_CELLS;
 use records::Past;
 use records::Season;
 use records::TenthF;
-use records::Verdict;
 use records::wide;
-
-// The place after what a day printed, and whether the run goes on.
-pub(crate) enum Told {
-    More(usize),
-    Last(usize),
-}
 
 // The numbers of day k.
 fn day_at(numbers: &[u32], from: usize, k: usize) -> DayRecord
@@ -47,19 +37,6 @@ fn day_at(numbers: &[u32], from: usize, k: usize) -> DayRecord
         mean: TenthF(tenths(numbers[at + 4])),
         maximum: TenthF(tenths(numbers[at + 5])),
         potential: Depth(wide(numbers[at + 6])),
-    }
-}
-
-// A day's line, or its refusal.
-fn tell(output: &mut [u8], at: usize, serial: u32, answer: Answer) -> Told
-    requires { ⌜ at + 168 ≤ length (now output) ⌝ }
-    ensures { λ r. ⌜ Tells at serial (totalsAs (answer .totals)) (verdictAs (answer .verdict)) (now (output .entry)) (now (output .exit)) r ⌝ }
-{
-    let verdict = answer.verdict;
-    let totals = answer.totals;
-    match verdict {
-        Verdict::Accepted => Told::More(line(output, at, serial, totals)),
-        Verdict::Refused(why) => Told::Last(refusal(output, at, why)),
     }
 }
 
@@ -80,7 +57,7 @@ pub(crate) fn days(
     past: Past,
     output: &mut [u8],
 ) -> usize
-    requires { ⌜ DaysReady (now numbers) from (now direction) (now output) ⌝ }
+    requires { ⌜ DaysReady (now numbers) from (now direction) ⌝ }
     ensures { λ r. ⌜ Wrote mostText 0 (daysText (setupAs grid season (now (covers .entry)) (now (direction .entry)) (now (cover .entry)) (now (group .entry)) (now (water .entry))) (stateAs (now (soil .entry)) (now (snow .entry)) past) (noResults (length (now (direction .entry)))) 0 (made (dayCount (now (numbers .entry))) (dayAt (now (numbers .entry))))) (now (output .entry)) (now (output .exit)) r ⌝ }
 {
     let n = direction.len();

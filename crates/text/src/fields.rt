@@ -2,10 +2,10 @@
 ghost use mathlib.Core.Path.{_≡_};
 ghost use Prim.Native.Nat.{_+_, _*_, _≤_, _<_};
 ghost use lib.ListN.{length, getD};
-ghost use Rattle.text.specs.Words.{signed};
+ghost use Rattle.lines.specs.Reading.{noNumber, signed};
 ghost use Rattle.text.specs.Program.{groupGiven};
 ghost use Rattle.text.specs.Laying.{Front};
-use crate::reading::NEGATIVES;
+use lines::NEGATIVES;
 use records::MOST_CELLS;
 
 // The numbers before the cover table: width, height, first, last and the count of covers.
@@ -16,23 +16,6 @@ pub(crate) const CELL_NUMBERS: usize = 4;
 
 // The numbers of a day: serial, day of the year, gross precipitation, three temperatures and potential evapotranspiration.
 pub(crate) const DAY_NUMBERS: usize = 7;
-
-// The longest cover table: 64 entries of 16 numbers.
-const MOST_TABLE: usize = 1024;
-
-// The cover table, which stands after the first five numbers, at the front of an array.
-pub(crate) fn table(numbers: &[u32], count: usize) -> [u32; MOST_TABLE]
-    requires { ⌜ (5 + count ≤ length (now numbers)) × (count ≤ 1024) ⌝ }
-    ensures { λ r. ⌜ Front count (λ k. getD (now (numbers .entry)) (5 + k) 0) r ⌝ }
-{
-    let mut covers = [0u32; MOST_TABLE];
-    let mut k = 0;
-    while k < count {
-        covers[k] = numbers[FRONT_NUMBERS + k];
-        k += 1;
-    }
-    covers
-}
 
 // One of each cell's four numbers, at the front of an array: 0 its direction, 1 its cover, 3 its water.
 pub(crate) fn column(numbers: &[u32], from: usize, which: usize, count: usize) -> [u32; MOST_CELLS]
@@ -73,7 +56,7 @@ pub(crate) fn groups(numbers: &[u32], from: usize, count: usize) -> [u32; MOST_C
 
 // A temperature, with its sign back.
 pub(crate) fn tenths(code: u32) -> i32
-    requires { ⌜ code < 2000000000 ⌝ }
+    requires { ⌜ code < noNumber ⌝ }
     ensures { λ r. ⌜ r ≡ signed code ⌝ }
 {
     if NEGATIVES < code {

@@ -1,18 +1,16 @@
-// The program's text as one function of the input: its length, its form, the tests of its numbers, then the run.
-ghost use Prim.Native.Nat.{_≤_};
-ghost use lib.ListN.{length};
+// The program's text as one function of the input: its length and form, the tests of its numbers, then the run.
 ghost use Rattle.text.specs.Program.{printed, numbersText};
 ghost use Rattle.text.specs.Run.{Printed, Coded, mostText};
-ghost use Rattle.text.specs.Writing.{Wrote};
-use crate::reading::Form;
-use crate::reading::MOST_NUMBERS;
-use crate::reading::read;
+ghost use Rattle.lines.specs.Writing.{Wrote};
 use crate::screening::Screened;
 use crate::screening::TEXT;
 use crate::screening::screen;
-use crate::screening::units;
 use crate::starting::started;
-use crate::writing::refused;
+use lines::Form;
+use lines::MOST_NUMBERS;
+use lines::read;
+use lines::refused;
+use lines::units;
 
 pub enum Written {
     // The buffer is shorter than the longest text.
@@ -24,11 +22,9 @@ pub enum Written {
 // Room for the longest text: specs/Run.antt says how it is made up.
 pub const MOST_TEXT: usize = 786461;
 
-const MOST_BYTES: usize = 65536;
-
 // The numbers of a text of good form.
 fn screened(numbers: &[u32], output: &mut [u8]) -> usize
-    requires { ⌜ Coded (now numbers) × (mostText ≤ length (now output)) ⌝ }
+    requires { ⌜ Coded (now numbers) ⌝ }
     ensures { λ r. ⌜ Wrote mostText 0 (numbersText (now (numbers .entry))) (now (output .entry)) (now (output .exit)) r ⌝ }
 {
     match screen(numbers) {
@@ -37,14 +33,10 @@ fn screened(numbers: &[u32], output: &mut [u8]) -> usize
     }
 }
 
-// The whole text, where there is room for it.
+// The whole text.
 fn text(input: &[u8], output: &mut [u8]) -> usize
-    requires { ⌜ mostText ≤ length (now output) ⌝ }
     ensures { λ r. ⌜ Wrote mostText 0 (printed (now (input .entry))) (now (output .entry)) (now (output .exit)) r ⌝ }
 {
-    if MOST_BYTES < input.len() {
-        return refused(output, 0, TEXT, 0);
-    }
     let mut numbers = [0u32; MOST_NUMBERS];
     match read(input, &mut numbers) {
         Form::Whole(count) => screened(&numbers[..count], output),

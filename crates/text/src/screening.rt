@@ -8,6 +8,7 @@ use crate::fields::CELL_NUMBERS;
 use crate::fields::DAY_NUMBERS;
 use crate::fields::FRONT_NUMBERS;
 use covers::ENTRY_NUMBERS;
+use lines::units;
 use records::Grid;
 use records::index_of;
 
@@ -36,12 +37,6 @@ fn complete(count: usize, needed: usize) -> bool
         return false;
     }
     (count - needed) % DAY_NUMBERS == 0
-}
-
-pub(crate) fn units(count: usize) -> u64
-    ensures { λ r. ⌜ r ≡ count ⌝ }
-{
-    count as u64
 }
 
 pub(crate) fn screen(numbers: &[u32]) -> Screened

@@ -5,15 +5,14 @@ ghost use lib.ListN.{length};
 ghost use Rattle.text.specs.Laying.{gridIn, seasonIn, Laid};
 ghost use Rattle.text.specs.Program.{runText};
 ghost use Rattle.text.specs.Run.{Coded, Complete, Lent, mostText};
-ghost use Rattle.text.specs.Writing.{Wrote};
+ghost use Rattle.lines.specs.Writing.{Wrote};
 use crate::days::days;
 use crate::fields::CELL_NUMBERS;
 use crate::fields::FRONT_NUMBERS;
 use crate::fields::column;
 use crate::fields::groups;
-use crate::fields::table;
-use crate::refusals::refusal;
 use covers::ENTRY_NUMBERS;
+use lines::refusal;
 use records::Grid;
 use records::MOST_CELLS;
 use records::Season;
@@ -50,7 +49,7 @@ fn begun(
     snow: &mut [u32],
     output: &mut [u8],
 ) -> usize
-    requires { ⌜ Laid (now numbers) (now covers) (now direction) (now cover) (now group) (now water) × Lent (now numbers) (now soil) (now snow) (now output) ⌝ }
+    requires { ⌜ Laid (now numbers) (now covers) (now direction) (now cover) (now group) (now water) × Lent (now numbers) (now soil) (now snow) ⌝ }
     ensures { λ r. ⌜ Wrote mostText 0 (runText (now (numbers .entry))) (now (output .entry)) (now (output .exit)) r ⌝ }
 {
     let grid = grid_in(numbers);
@@ -91,14 +90,13 @@ fn begun(
     }
 }
 
-// Numbers that are ready for the run: the setup stands at the fronts of arrays, one entry a cell and 16 a cover.
+// Numbers that are ready for the run: the cover table is lent from among them, and the cells' four numbers stand each at the front of an array.
 pub(crate) fn started(numbers: &[u32], cells: usize, output: &mut [u8]) -> usize
-    requires { ⌜ Complete (now numbers) cells × Coded (now numbers) × (mostText ≤ length (now output)) ⌝ }
+    requires { ⌜ Complete (now numbers) cells × Coded (now numbers) ⌝ }
     ensures { λ r. ⌜ Wrote mostText 0 (runText (now (numbers .entry))) (now (output .entry)) (now (output .exit)) r ⌝ }
 {
-    let count = ENTRY_NUMBERS * index_of(numbers[4]);
-    let from = FRONT_NUMBERS + count;
-    let covers = table(numbers, count);
+    let front = FRONT_NUMBERS;
+    let from = front + ENTRY_NUMBERS * index_of(numbers[4]);
     let direction = column(numbers, from, 0, cells);
     let cover = column(numbers, from, 1, cells);
     let group = groups(numbers, from, cells);
@@ -107,7 +105,7 @@ pub(crate) fn started(numbers: &[u32], cells: usize, output: &mut [u8]) -> usize
     let mut snow = [0u32; MOST_CELLS];
     begun(
         numbers,
-        &covers[..count],
+        &numbers[front..from],
         &direction[..cells],
         &cover[..cells],
         &group[..cells],

@@ -3,10 +3,10 @@
 use mathlib.Core.Path.{_≡_, refl, sym, ap, _∙_}
 use mathlib.Core.List.{List, [], _∷_, _++_, append-nil}
 use Prim.Native.Nat.{ℕ, zero, suc, _+_, _-_, _≤_, _<_, suc-le-suc}
-use native.Mathlib.Nat.{not-suc-le-zero, le-of-suc-le-suc, zero-lt-suc, add-sub-of-le, le-of-eq}
+use native.Mathlib.Nat.{not-suc-le-zero, le-of-suc-le-suc, zero-lt-suc, add-zero, add-sub-of-le, le-of-eq}
 use native.Mathlib.Numerals.{add-one}
 use native.Mathlib.Omega.{arith}
-use lib.ListN.{length, getD, set, drop, length-append, length-drop, length-set, drop-of-length-le, List·getD-append}
+use lib.ListN.{length, getD, set, take, drop, length-append, length-drop, length-set, drop-of-length-le, List·getD-append}
 use lib.Dec.{eqb}
 use lib.Seq.{drop-cons, set-at, append-snoc, getD-append-add, getD-drop, getD-set-same, getD-set-other, ext-getD}
 use borrow.Author.Tests.{eqb-true, eqb-false}
@@ -87,6 +87,15 @@ pub in-range : (l : List ℕ) (i d e : ℕ) → i < length l → getD l i d ≡ 
 in-range [] i d e h = absurd (not-suc-le-zero h)
 in-range (x ∷ l) zero d e h = refl
 in-range (x ∷ l) (suc i) d e h = in-range l i d e (le-of-suc-le-suc h)
+
+-- a part of a list, by index
+pub take-made : (n a : ℕ) (l : List ℕ) → a + n ≤ length l → take n (drop a l) ≡ made n (λ i. getD l (a + i) 0)
+unfolding made
+take-made zero a l h = refl
+take-made (suc n) a l h =
+    rw (drop-cons l a 0 (omega arith), add-zero a)
+    (ap (λ (r : List ℕ). getD l a 0 ∷ r)
+    (take-made n (suc a) l (omega arith) ∙ made-cong n _ _ (λ i _. ap (λ (k : ℕ). getD l k 0) (omega arith))))
 
 -- one store into a made list
 pub made-set : (n k : ℕ) (f g : ℕ → ℕ) (x : ℕ) → g k ≡ x → ((i : ℕ) → (i ≡ k → ⊥) → f i ≡ g i) → set (made n f) k x ≡ made n g

@@ -1,5 +1,5 @@
 -- `days::days` meets its contract. The loop's invariant: the run is underway, so that what stands in the buffer and the text of the days that are
--- left are the whole text; a day takes at most 168 bytes, and finds in the lent parts of the five arrays the results that the day before left.
+-- left are the whole text; a day finds in the lent parts of the five arrays the results that the day before left.
 -- The laws of a run underway are the loop's three ways on.
 use Rattle.text.proofs.days.days.Statement.{statement}
 use Rattle.text.proofs.days.days.Tie as tie
@@ -84,10 +84,7 @@ day-requires : tie.Need-day-requires Inv-loop μ-loop
 day-requires c κs = search needs
 
 tell-requires : tie.Need-tell-requires Inv-loop μ-loop
-tell-requires c κs = let at = date (c .before .before .before .before .before .before .before .before .before .before) in
-    let u = head at .loop .inv .4 in
-    let p = start (head at) .pre in
-    omega (arith, u .placed, u .long, p .room, p .coded .few, at .before .loop-test .taken)
+tell-requires c κs = search needs
 
 enum-known-next : tie.Need-enum-known-next Inv-loop μ-loop
 enum-known-next c = search needs
@@ -144,10 +141,7 @@ loop-again c = let told = c .before .before in
     )
 
 ended-requires : tie.Need-ended-requires Inv-loop μ-loop
-ended-requires c κs = let last = c .before .before in
-    let u = last .loop .inv .4 in
-    let p = start last .pre in
-    omega (arith, u .placed, u .long, p .room, p .coded .few, last .loop .inv .0)
+ended-requires c κs = search needs
 
 same-length-4 : tie.Need-same-length-4 Inv-loop μ-loop
 same-length-4 c = search needs

@@ -2,7 +2,7 @@
 use Rattle.text.proofs.fields.group.Statement.{statement}
 use Rattle.text.proofs.fields.group.Tie as tie
 use borrow.Author.Tests.{lt-ltb, le-ltb}
-use Rattle.text.specs.Words.{negatives}
+use Rattle.lines.specs.Reading.{negatives}
 use Rattle.text.specs.Program.{groupGiven}
 
 returns : tie.Need-returns

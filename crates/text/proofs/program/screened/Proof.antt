@@ -23,7 +23,7 @@ started-requires : tie.Need-started-requires
 started-requires c κs = let told = c .before .before in
     let screen = told .before .before in
     let start = screen .before .before .before in
-    (ready _ _ (sym (screen .screen .ensures) ∙ told .cells .given .1), start .pre .0, start .pre .1)
+    (ready _ _ (sym (screen .screen .ensures) ∙ told .cells .given .1), start .pre)
 
 same-length : tie.Need-same-length
 same-length c = search needs

@@ -25,10 +25,10 @@ season-in-requires : tie.Need-season-in-requires
 season-in-requires c κs = five _ (c .before .before .before .before .before .before .before .before .before .before .pre .1 .numbers)
 
 refusal-requires : tie.Need-refusal-requires
-refusal-requires c κs = omega (arith, start (season (fresh (c .before .before .before .before))) .pre .1 .room)
+refusal-requires c κs = search needs
 
 days-requires : tie.Need-days-requires
-days-requires c κs = let p = start (season (fresh (c .before .before .before .before .before .before))) .pre in days-ready _ _ _ _ _ _ _ _ _ (p .0) (p .1)
+days-requires c κs = let p = start (season (fresh (c .before .before .before .before .before .before))) .pre in days-ready _ _ _ _ _ _ _ _ (p .0) (p .1)
 
 returns : tie.Need-returns
 returns c = let refusal = c .before .before in
@@ -37,7 +37,7 @@ returns c = let refusal = c .before .before in
     let at = season (fresh lent) in
     let p = start at .pre in
     whole-text
-    (start-refused _ _ _ _ _ _ _ _ _ (p .0) (p .1) _ _ (at .before .grid-in .ensures) (at .season-in .ensures) _ _ _
+    (start-refused _ _ _ _ _ _ _ _ (p .0) (p .1) _ _ (at .before .grid-in .ensures) (at .season-in .ensures) _ _ _
     (fresh lent .fresh .ensures) (ap verdictAs (told .verdict .given .1)))
     (omega arith)
     (refusal .refusal .ensures)
@@ -49,7 +49,7 @@ returns-2 c = let days = c .before .before .before .before .before .before in
     let at = season (fresh lent) in
     let p = start at .pre in
     whole-text
-    (start-runs _ _ _ _ _ _ _ _ _ (p .0) (p .1) _ _ (at .before .grid-in .ensures) (at .season-in .ensures) _ _
+    (start-runs _ _ _ _ _ _ _ _ (p .0) (p .1) _ _ (at .before .grid-in .ensures) (at .season-in .ensures) _ _
     (fresh lent .fresh .ensures) (ap verdictAs (told .enum-told .given .1)))
     (omega arith)
     (days .days .ensures)

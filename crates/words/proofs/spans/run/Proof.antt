@@ -1,0 +1,64 @@
+-- `spans::run` meets its contract: what stands first from `from` on is what the loop has passed and what stands first from its place on.
+use Rattle.words.proofs.spans.run.Statement.{statement}
+use Rattle.words.proofs.spans.run.Tie as tie
+use mathlib.Core.Path.{_≡_, refl, sym, _∙_}
+use Prim.Native.Nat.{_+_, _-_, _≤_}
+use native.Mathlib.Omega.{arith}
+use borrow.Author.Needs.{needs}
+use lib.ListN.{length, drop}
+use Rattle.words.specs.Spans.{run}
+use Rattle.words.proofs.WordLaws.{run-more, run-stop, run-end}
+
+abbrev Inv-loop : tie.InvT-loop
+Inv-loop text from end₀ end = from + run (drop from text) ≡ end + run (drop end text)
+
+abbrev μ-loop : tie.MeasureT-loop
+μ-loop text from end₀ end = length text - end
+
+loop-holds : tie.Need-loop-holds Inv-loop μ-loop
+loop-holds c = refl
+
+shared-slice-read-is-blank : tie.Need-shared-slice-read-is-blank Inv-loop μ-loop
+shared-slice-read-is-blank c = search needs
+
+is-blank-requires : tie.Need-is-blank-requires Inv-loop μ-loop
+is-blank-requires c κs = search needs
+
+returns : tie.Need-returns Inv-loop μ-loop
+returns c =
+    let at-loop = c .before .before .before .before in
+    let e = run-stop (at-loop .before .before .args .text .now) (at-loop .loop .end) (c .before .before .before .loop-test .taken) (sym (c .before .is-blank .ensures) ∙ c .if1 .taken) in
+    omega (arith, at-loop .loop .inv)
+
+add-end : tie.Need-add-end Inv-loop μ-loop
+add-end c = search needs
+
+loop-less : tie.Need-loop-less Inv-loop μ-loop
+loop-less c = search needs
+
+loop-again : tie.Need-loop-again Inv-loop μ-loop
+loop-again c =
+    let at-loop = c .before .before .before .before in
+    let e = run-more (at-loop .before .before .args .text .now) (at-loop .loop .end) (c .before .before .before .loop-test .taken) (sym (c .before .is-blank .ensures) ∙ c .if1 .left) in
+    omega (arith, at-loop .loop .inv)
+
+returns-2 : tie.Need-returns-2 Inv-loop μ-loop
+returns-2 c =
+    let at-loop = c .before in
+    let e = run-end (at-loop .before .before .args .text .now) (at-loop .loop .end) (c .loop-test .left) in
+    omega (arith, at-loop .loop .inv)
+
+pub run-spec : {M : Type 1} → statement M
+run-spec =
+    tie.close
+    (tie.spec
+    Inv-loop
+    μ-loop
+    loop-holds
+    shared-slice-read-is-blank
+    is-blank-requires
+    returns
+    add-end
+    loop-less
+    loop-again
+    returns-2)

@@ -1,0 +1,14 @@
+// Words and whole numbers as bytes, both ways. A reader asks for the next word and for the number that it means; a writer writes what fits and says
+// where it would end.
+mod numbers;
+mod putting;
+mod spans;
+
+pub use numbers::Meaning;
+pub use numbers::number;
+pub use putting::put_byte;
+pub use putting::put_bytes;
+pub use putting::put_item;
+pub use putting::put_number;
+pub use spans::Span;
+pub use spans::next_word;
