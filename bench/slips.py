@@ -4,14 +4,14 @@
     bench/slips.py [EACH]
 
 Works on a copy of theory and paper in a temporary folder. A slip changes one place of crates/paper/specs: a number one up
-or one down, ltb for leb or leb for ltb, && for ||, + for - or - for +. Of all slips every EACH-th is tried (default 1; a
+or one down, ltb for leb or leb for ltb, && for || or || for &&, + for - or - for +. Of all slips every EACH-th is tried (default 1; a
 hundred take some minutes). Prints each slip that passes, with its file and line, and at the end their count. A slip that
 passes is either no change of meaning or one that no law sees. Needs python3 and rt."""
 import re, shutil, subprocess, sys, tempfile
 from pathlib import Path
 
 ROOT = Path(__file__).resolve().parent.parent
-SWAPS = [("ltb", "leb"), ("leb", "ltb"), ("&&", "||"), (" + ", " - "), (" - ", " + ")]
+SWAPS = [("ltb", "leb"), ("leb", "ltb"), ("&&", "||"), ("||", "&&"), (" + ", " - "), (" - ", " + ")]
 
 
 def places(line):

@@ -95,7 +95,7 @@ abbrev onTheLimits : List Bool
 onTheLimits =
     -- the grid, the season
     gridFits (record { width = 1; height = 1 }) ∷ gridFits (record { width = 64; height = 64 }) ∷ gridFits (record { width = 4096; height = 1 })
-    ∷ seasonFits (record { first = 1; last = 366 }) ∷ seasonFits (record { first = 366; last = 366 })
+    ∷ seasonFits (record { first = 1; last = 366 }) ∷ seasonFits (record { first = 366; last = 366 }) ∷ seasonFits (record { first = 1; last = 1 })
     ∷ growing (record { first = 100; last = 200 }) 100 ∷ growing (record { first = 100; last = 200 }) 200
     -- the cover table: its size, and each number of an entry
     ∷ sizeFits told ∷ sizeFits (replicate 1024 0)
@@ -107,7 +107,7 @@ onTheLimits =
     ∷ cellFits (two (told ++ lake) [] (9 ∷ []) (1 ∷ []) (600 ∷ [])) 0 ∷ cellFits (two (told ++ lake) [] (7 ∷ []) (4 ∷ []) (0 ∷ [])) 0
     -- the day record
     ∷ dayFits (day 0 1 400000 (pos 0) (pos 0) (pos 0) 20000) ∷ dayFits (day 9999999 366 0 (pos 0) (pos 0) (pos 0) 0)
-    ∷ weather (negsuc 999) (negsuc 999) (negsuc 999) ∷ weather (pos 1500) (pos 1500) (pos 1500) ∷ weather (negsuc 999) (pos 0) (pos 1500)
+    ∷ fallsAsSnow (pos 279) (pos 360) (pos 399) ∷ weather (negsuc 999) (negsuc 999) (negsuc 999) ∷ weather (pos 1500) (pos 1500) (pos 1500) ∷ weather (negsuc 999) (pos 0) (pos 1500)
     -- the state
     ∷ lastFits none ∷ lastFits (serial 0) ∷ lastFits (serial 9999999) ∷ memoryFits (memory 400000 400000 400000 400000 400000)
     ∷ follows none 0 ∷ follows none 9999999 ∷ follows (serial 0) 1 ∷ follows (serial 9999998) 9999999
@@ -130,7 +130,7 @@ pastTheLimits =
     ∷ dayFits (day 10000000 1 0 (pos 0) (pos 0) (pos 0) 0) ∷ dayFits (day 1 0 0 (pos 0) (pos 0) (pos 0) 0) ∷ dayFits (day 1 367 0 (pos 0) (pos 0) (pos 0) 0)
     ∷ dayFits (day 1 1 400001 (pos 0) (pos 0) (pos 0) 0) ∷ dayFits (day 1 1 0 (pos 0) (pos 0) (pos 0) 20001)
     ∷ weather (negsuc 1000) (pos 0) (pos 0) ∷ weather (pos 0) (pos 0) (pos 1501) ∷ weather (pos 1) (pos 0) (pos 0) ∷ weather (pos 0) (pos 1) (pos 0)
-    ∷ lastFits (serial 10000000)
+    ∷ fallsAsSnow (pos 279) (pos 361) (pos 401) ∷ lastFits (serial 10000000)
     ∷ memoryFits (memory 400001 0 0 0 0) ∷ memoryFits (memory 0 400001 0 0 0) ∷ memoryFits (memory 0 0 400001 0 0)
     ∷ memoryFits (memory 0 0 0 400001 0) ∷ memoryFits (memory 0 0 0 0 400001)
     ∷ follows (serial 0) 0 ∷ follows (serial 0) 2 ∷ follows (serial 5) 5 ∷ follows (serial 5) 7

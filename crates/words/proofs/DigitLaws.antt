@@ -1,17 +1,20 @@
--- Decimal digits: a number's are its tenth part's and one more, twenty at most for 64 bits, and reading them gives the number back.
+-- Decimal digits: a number's are its tenth part's and one more, twenty at most for 64 bits. Reading what is written gives the number back, and writing what is read
+-- gives the word back.
 use mathlib.Core.Path.{_≡_, refl, sym, ap, _∙_}
-use mathlib.Core.Bool.{true}
-use mathlib.Core.List.{List, [], _∷_, _++_}
+use mathlib.Core.Bool.{true, cond, _&&_, _||_}
+use mathlib.Core.List.{List, [], _∷_, _++_, append-nil}
 use Prim.Native.Nat.{ℕ, zero, suc, _+_, _*_, _-_, _/_, _%_, _^_, _≤_, _<_, zero-le}
 use native.Mathlib.Nat.{not-suc-le-zero, le-refl, pow-suc, zero-add}
 use native.Mathlib.Omega.{arith}
-use lib.IntN.{pos}
+use lib.IntN.{ℤ, pos, negsuc}
+use lib.Dec.{eqb, leb}
 use lib.ListN.{length, length-append}
-use borrow.Author.Tests.{lt-ltb, le-ltb, le-leb}
-use Rattle.theory.proofs.Cases.{below-or-not, and-left, and-right, and-both}
-use Rattle.words.specs.Numbers.{isDigit, allDigits, spelled, isZero, isCount, number, good}
-use Rattle.words.specs.Digits.{digitsWithin, digits}
-use Rattle.words.proofs.NumberLaws.{First, first-tests}
+use lib.Seq.{append-snoc}
+use borrow.Author.Tests.{lt-ltb, le-ltb, le-leb, leb-true, eqb-true}
+use Rattle.theory.proofs.Cases.{byCases, below-or-not, and-left, and-right, and-both}
+use Rattle.words.specs.Numbers.{isDigit, allDigits, spelled, isFirstDigit, isZero, isCount, number, good, bad}
+use Rattle.words.specs.Digits.{digitsWithin, digits, written}
+use Rattle.words.proofs.NumberLaws.{digit-low, digit-high, First, first-tests, count-above}
 
 within-one : (most n : ℕ) → n < 10 → digitsWithin most n ≡ (48 + n) ∷ []
 unfolding digitsWithin
@@ -121,8 +124,88 @@ spelled-number n s =
     let short = s .short in
     rw (s .same, t .minus?, t .zero?, t .first?, le-leb (length (s .rest)) 8 short, s .digits?, zero-add (s .first - 48), s .value) refl
 
--- what is printed of a number is read as that number
-pub read-back : (n : ℕ) → n ≤ 999999999 → number (digits n) ≡ good (pos n)
+below-number : (n : ℕ) → Spelled (suc n) 8 → number (45 ∷ digits (suc n)) ≡ good (negsuc n)
+unfolding number isCount spelled
+below-number n s =
+    let short = s .short in
+    rw (s .same, s .tests .first?, le-leb (length (s .rest)) 8 short, s .digits?, zero-add (s .first - 48), s .value)
+    (ap (λ (k : ℕ). good (negsuc k)) (omega arith))
+
+plain-back : (n : ℕ) → n ≤ 999999999 → number (digits n) ≡ good (pos n)
 unfolding number isZero spelled digits digitsWithin
-read-back zero h = refl
-read-back (suc n) h = spelled-number (suc n) (spells 8 (suc n) (omega arith) (omega arith))
+plain-back zero h = refl
+plain-back (suc n) h = spelled-number (suc n) (spells 8 (suc n) (omega arith) (omega arith))
+
+-- what is written of a number of at most nine digits is read as that number
+unfoldable pub NineDigits : ℤ → Type 0
+NineDigits (pos n) = n ≤ 999999999
+NineDigits (negsuc m) = suc m ≤ 999999999
+
+pub read-back : (z : ℤ) → NineDigits z → number (written z) ≡ good z
+unfolding written NineDigits
+read-back (pos n) h = plain-back n h
+read-back (negsuc m) h = below-number m (spells 8 (suc m) (omega arith) (omega arith))
+
+-- and what is read of a word is written as that word
+digits-spelled : (ds : List ℕ) (m : ℕ) → 1 ≤ m → allDigits ds ≡ true → digits (spelled m ds) ≡ digits m ++ ds
+unfolding allDigits spelled
+digits-spelled [] m h e = sym (append-nil (digits m))
+digits-spelled (b ∷ ds) m h e =
+    let low = digit-low b (and-left (isDigit b) (allDigits ds) e) in
+    let high = digit-high b (and-left (isDigit b) (allDigits ds) e) in
+    let tenth : (10 * m + (b - 48)) / 10 ≡ m = omega arith in
+    let last : 48 + (10 * m + (b - 48)) % 10 ≡ b = omega arith in
+    digits-spelled ds (10 * m + (b - 48)) (omega arith) (and-right (isDigit b) (allDigits ds) e)
+    ∙ rw (digits-more (10 * m + (b - 48)) (omega arith), tenth, last) (append-snoc (digits m) b ds)
+
+count-back : (l : List ℕ) → isCount l ≡ true → digits (spelled 0 l) ≡ l
+unfolding isCount isFirstDigit spelled
+count-back [] e = absurd (let z : _≡_ {A = ℕ} 0 1 = cc in omega arith)
+count-back (b ∷ bs) e =
+    let first = and-left (leb 49 b && leb b 57) (leb (length bs) 8 && allDigits bs) e in
+    let rest = and-right (leb 49 b && leb b 57) (leb (length bs) 8 && allDigits bs) e in
+    let low : 49 ≤ b = leb-true 49 b (and-left (leb 49 b) (leb b 57) first) in
+    let high : b ≤ 57 = leb-true b 57 (and-right (leb 49 b) (leb b 57) first) in
+    let same : 48 + (10 * 0 + (b - 48)) ≡ b = omega arith in
+    digits-spelled bs (10 * 0 + (b - 48)) (omega arith) (and-right (leb (length bs) 8) (allDigits bs) rest)
+    ∙ rw (digits-one (10 * 0 + (b - 48)) (omega arith), same) refl
+
+zero-back : (l : List ℕ) → isZero l ≡ true → digits (spelled 0 l) ≡ l
+unfolding isZero spelled
+zero-back [] e = absurd (let z : _≡_ {A = ℕ} 0 1 = cc in omega arith)
+zero-back (b ∷ []) e = rw (eqb-true b 48 (and-left (eqb b 48) (eqb 0 0) e)) (digits-one 0 (omega arith))
+zero-back (b ∷ x ∷ xs) e = absurd (omega (arith, eqb-true (suc (length xs)) 0 (and-right (eqb b 48) (eqb (suc (length xs)) 0) e)))
+
+-- by the word's sign
+below-back : (bs : List ℕ) (z : ℤ) → cond (isCount bs) (good (negsuc (spelled 0 bs - 1))) bad ≡ good z → written z ≡ 45 ∷ bs
+unfolding written
+below-back bs z e =
+    byCases (isCount bs)
+    (λ c.
+    let same : good (negsuc (spelled 0 bs - 1)) ≡ good z = rw c at e in
+    let number : negsuc (spelled 0 bs - 1) ≡ z = cc in
+    let above : suc (spelled 0 bs - 1) ≡ spelled 0 bs = omega (arith, count-above bs c) in
+    rw (← number, above, count-back bs c) refl)
+    (λ c. let same : bad ≡ good z = rw c at e in absurd (let o : _≡_ {A = ℕ} 0 1 = cc in omega arith))
+
+plain-forth : (w : List ℕ) (z : ℤ) → cond (isZero w || isCount w) (good (pos (spelled 0 w))) bad ≡ good z → written z ≡ w
+unfolding written
+plain-forth w z e =
+    byCases (isZero w)
+    (λ n.
+    let same : good (pos (spelled 0 w)) ≡ good z = rw n at e in
+    let number : pos (spelled 0 w) ≡ z = cc in
+    rw (← number) (zero-back w n))
+    (λ n.
+    byCases (isCount w)
+    (λ c.
+    let same : good (pos (spelled 0 w)) ≡ good z = rw (n, c) at e in
+    let number : pos (spelled 0 w) ≡ z = cc in
+    rw (← number) (count-back w c))
+    (λ c. let same : bad ≡ good z = rw (n, c) at e in absurd (let o : _≡_ {A = ℕ} 0 1 = cc in omega arith)))
+
+pub write-back : (w : List ℕ) (z : ℤ) → number w ≡ good z → written z ≡ w
+unfolding number
+write-back [] z e = absurd (let o : _≡_ {A = ℕ} 0 1 = cc in omega arith)
+write-back (b ∷ bs) z e =
+    byCases (eqb b 45) (λ m. rw (eqb-true b 45 m) (below-back bs z (rw m at e))) (λ m. plain-forth (b ∷ bs) z (rw m at e))

@@ -100,7 +100,7 @@ unfolding spelled
 more-spelled [] m h = h
 more-spelled (b ∷ ds) m h = more-spelled ds (10 * m + (b - 48)) (omega arith)
 
-count-above : (ds : List ℕ) → isCount ds ≡ true → 1 ≤ spelled 0 ds
+pub count-above : (ds : List ℕ) → isCount ds ≡ true → 1 ≤ spelled 0 ds
 unfolding isCount spelled isFirstDigit
 count-above [] e = absurd (let z : _≡_ {A = Bool} false true = e in let o : _≡_ {A = ℕ} 0 1 = cc in omega arith)
 count-above (b ∷ bs) e =

@@ -6,6 +6,7 @@ mod spans;
 
 pub use numbers::Meaning;
 pub use numbers::number;
+pub use putting::put_below;
 pub use putting::put_byte;
 pub use putting::put_bytes;
 pub use putting::put_item;

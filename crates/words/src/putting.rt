@@ -50,6 +50,14 @@ pub fn put_number(buffer: &mut [u8], at: usize, n: u64) -> usize
     put_byte(buffer, last, digit(n % 10))
 }
 
+// A number so far below zero.
+pub fn put_below(buffer: &mut [u8], at: usize, n: u64) -> usize
+    ensures { λ r. ⌜ Put at (45 ∷ digits n) (now (buffer .entry)) (now (buffer .exit)) r ⌝ }
+{
+    let next = put_byte(buffer, at, b'-');
+    put_number(buffer, next, n)
+}
+
 // A number and the byte after it.
 pub fn put_item(buffer: &mut [u8], at: usize, n: u64, end: u8) -> usize
     ensures { λ r. ⌜ Put at (digits n ++ end ∷ []) (now (buffer .entry)) (now (buffer .exit)) r ⌝ }
