@@ -26,6 +26,7 @@ const MOST_BYTES: usize = 65536;
 // A number and the blank after it take two bytes, so 65,536 bytes hold at most so many.
 pub const MOST_NUMBERS: usize = 32768;
 
+// A word's code.
 fn code(word: &[u8]) -> u32
     ensures { λ r. ⌜ r ≡ codeOf (numberOf (now (word .entry))) ⌝ }
 {
@@ -36,6 +37,7 @@ fn code(word: &[u8]) -> u32
     }
 }
 
+// Word after word, each number's code after those before it.
 fn gather(input: &[u8], numbers: &mut [u32; MOST_NUMBERS]) -> Form
     requires { ⌜ length (now input) ≤ mostBytes ⌝ }
     ensures { λ r. ⌜ Read (reading (now (input .entry))) (now (numbers .entry)) (now (numbers .exit)) r ⌝ }

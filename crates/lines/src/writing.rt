@@ -37,6 +37,13 @@ pub(crate) fn line(buffer: &mut [u8], at: usize, serial: u32, totals: Totals) ->
     pair(buffer, c, gone, stored, b'\n')
 }
 
+// A count or a place as a number of a line.
+pub fn units(count: usize) -> u64
+    ensures { λ r. ⌜ r ≡ count ⌝ }
+{
+    count as u64
+}
+
 // The last line of a run whose days were all accepted.
 pub fn ended(buffer: &mut [u8], at: usize, days: u64) -> usize
     ensures { λ r. ⌜ Wrote mostEnd at (endLine days) (now (buffer .entry)) (now (buffer .exit)) r ⌝ }
@@ -53,12 +60,6 @@ pub fn refused(buffer: &mut [u8], at: usize, number: u64, place: u64) -> usize
     let b = put_item(buffer, a, number, b' ');
     let c = put_bytes(buffer, b, b"at ");
     put_item(buffer, c, place, b'\n')
-}
-
-pub fn units(count: usize) -> u64
-    ensures { λ r. ⌜ r ≡ count ⌝ }
-{
-    count as u64
 }
 
 // The last line of a refusal of the library's, which says its own number and place.

@@ -128,9 +128,6 @@ first-at (t ∷ ts) (suc k) i h before here =
     rw (none-lowest (t .places) (t .fails) (before 0 (zero-lt-suc k)))
     (first-at ts k i (le-of-suc-le-suc h) (λ j l. before (suc j) (suc-le-suc l)) here)
 
-pub first-refused : (ts : List Test) (why : Refusal) → FirstFailing ts why → verdict ts ≡ refused why
-first-refused ts why f = first-at ts (f .k) (f .i) (f .inside) (f .before) (f .here) ∙ ap refused (f .named)
-
 -- a verdict comes back from its number and its place, so that two with the same number and place are one
 verdictFrom : ℕ → ℕ → Verdict
 verdictFrom number place =

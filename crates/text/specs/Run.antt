@@ -6,6 +6,7 @@ use Prim.Native.Nat.{ℕ, _≤_, _<_}
 use lib.Dec.{ltb}
 use lib.ListN.{length, getD, replicate}
 use lib.Seq.{sets}
+use Rattle.paper.specs.Limits.{mostCells, mostCovers}
 use Rattle.lines.specs.Reading.{mostNumbers, noNumber}
 use Rattle.text.specs.Program.{coverCount, cellCount, daysFrom, printed}
 use Rattle.text.specs.declared.program.Written.{Written}
@@ -23,15 +24,15 @@ pub record Coded (ns : List ℕ) : Type 0 where
 -- numbers that are ready for the run, on so many cells
 pub record Complete (ns : List ℕ) (count : ℕ) : Type 0 where
   pub counted : count ≡ cellCount ns
-  pub cells : cellCount ns ≤ 4096
-  pub covers : coverCount ns ≤ 64
+  pub cells : cellCount ns ≤ mostCells
+  pub covers : coverCount ns ≤ mostCovers
   pub numbers : daysFrom ns ≤ length ns
 
 -- what a run starts from: no number is missing, and both stores are zeros
 pub record Lent (ns soil snow : List ℕ) : Type 0 where
   pub coded : Coded ns
   pub numbers : daysFrom ns ≤ length ns
-  pub few : cellCount ns ≤ 4096
+  pub few : cellCount ns ≤ mostCells
   pub soils : soil ≡ replicate (cellCount ns) 0
   pub snows : snow ≡ replicate (cellCount ns) 0
 
@@ -40,7 +41,7 @@ pub record DaysReady (ns : List ℕ) (from : ℕ) (direction : List ℕ) : Type 
   pub coded : Coded ns
   pub start : from ≡ daysFrom ns
   pub numbers : daysFrom ns ≤ length ns
-  pub few : length direction ≤ 4096
+  pub few : length direction ≤ mostCells
 
 -- the program's promise: without room nothing is written; else the whole text, from the buffer's front on, and its length, which is within the buffer
 pub record Printed (input before after : List ℕ) (r : Written) : Type 0 where

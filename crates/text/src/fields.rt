@@ -2,6 +2,7 @@
 ghost use mathlib.Core.Path.{_≡_};
 ghost use Prim.Native.Nat.{_+_, _*_, _≤_, _<_};
 ghost use lib.ListN.{length, getD};
+ghost use Rattle.paper.specs.Limits.{mostCells};
 ghost use Rattle.lines.specs.Reading.{noNumber, signed};
 ghost use Rattle.text.specs.Program.{groupGiven};
 ghost use Rattle.text.specs.Laying.{Front};
@@ -19,7 +20,7 @@ pub(crate) const DAY_NUMBERS: usize = 7;
 
 // One of each cell's four numbers, at the front of an array: 0 its direction, 1 its cover, 3 its water.
 pub(crate) fn column(numbers: &[u32], from: usize, which: usize, count: usize) -> [u32; MOST_CELLS]
-    requires { ⌜ (from + 4 * count ≤ length (now numbers)) × (which < 4) × (count ≤ 4096) ⌝ }
+    requires { ⌜ (from + 4 * count ≤ length (now numbers)) × (which < 4) × (count ≤ mostCells) ⌝ }
     ensures { λ r. ⌜ Front count (λ i. getD (now (numbers .entry)) (from + 4 * i + which) 0) r ⌝ }
 {
     let mut cells = [0u32; MOST_CELLS];
@@ -39,7 +40,7 @@ fn group(direction: u32, given: u32) -> u32
 }
 
 pub(crate) fn groups(numbers: &[u32], from: usize, count: usize) -> [u32; MOST_CELLS]
-    requires { ⌜ (from + 4 * count ≤ length (now numbers)) × (count ≤ 4096) ⌝ }
+    requires { ⌜ (from + 4 * count ≤ length (now numbers)) × (count ≤ mostCells) ⌝ }
     ensures { λ r. ⌜ Front count (λ i. groupGiven (getD (now (numbers .entry)) (from + 4 * i) 0) (getD (now (numbers .entry)) (from + 4 * i + 2) 0)) r ⌝ }
 {
     let mut cells = [0u32; MOST_CELLS];

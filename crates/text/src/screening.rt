@@ -3,6 +3,7 @@ ghost use mathlib.Core.Bool.{_&&_};
 ghost use mathlib.Core.Path.{_≡_};
 ghost use Prim.Native.Nat.{_-_, _*_, _%_};
 ghost use lib.Dec.{leb, eqb};
+ghost use Rattle.paper.specs.Limits.{mostCovers};
 ghost use Rattle.text.specs.Program.{screen as screened};
 use crate::fields::CELL_NUMBERS;
 use crate::fields::DAY_NUMBERS;
@@ -24,7 +25,7 @@ pub(crate) const TEXT: u64 = 11;
 const MOST_COVERS: u32 = 64;
 
 fn covers_fit(count: u32) -> bool
-    ensures { λ r. ⌜ r ≡ (leb 1 count && leb count 64) ⌝ }
+    ensures { λ r. ⌜ r ≡ (leb 1 count && leb count mostCovers) ⌝ }
 {
     (1 <= count) & (count <= MOST_COVERS)
 }

@@ -1,5 +1,5 @@
--- Decimal digits: a number's are its tenth part's and one more, twenty at most for 64 bits. Reading what is written gives the number back, and writing what is read
--- gives the word back.
+-- Decimal digits: a number's are its tenth part's and one more, twenty at most for 64 bits. Reading what is written gives the number back, and
+-- writing what is read gives the word back.
 use mathlib.Core.Path.{_≡_, refl, sym, ap, _∙_}
 use mathlib.Core.Bool.{true, cond, _&&_, _||_}
 use mathlib.Core.List.{List, [], _∷_, _++_, append-nil}

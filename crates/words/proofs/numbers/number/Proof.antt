@@ -1,6 +1,5 @@
 -- `numbers::number` meets its contract: the first byte tells the sign, and the digits after it are a number or none.
-use mathlib.Core.Path.{sym, _∙_}
-use native.Mathlib.Omega.{arith}
+use mathlib.Core.Path.{sym}
 use borrow.Author.Needs.{needs}
 use Rattle.words.proofs.numbers.number.Statement.{statement}
 use Rattle.words.proofs.numbers.number.Tie as tie

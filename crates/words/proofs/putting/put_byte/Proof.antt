@@ -1,5 +1,4 @@
 -- `putting::put_byte` meets its contract: in the buffer, past its end, and at the farthest place.
-use mathlib.Core.Path.{sym}
 use native.Mathlib.Omega.{arith}
 use borrow.Author.Needs.{needs}
 use Rattle.words.proofs.putting.put_byte.Statement.{statement}

@@ -2,7 +2,7 @@
 use Rattle.words.proofs.spans.run.Statement.{statement}
 use Rattle.words.proofs.spans.run.Tie as tie
 use mathlib.Core.Path.{_≡_, refl, sym, _∙_}
-use Prim.Native.Nat.{_+_, _-_, _≤_}
+use Prim.Native.Nat.{_+_, _-_}
 use native.Mathlib.Omega.{arith}
 use borrow.Author.Needs.{needs}
 use lib.ListN.{length, drop}
