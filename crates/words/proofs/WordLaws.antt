@@ -101,6 +101,8 @@ module _ (text : List ℕ) (from start end : ℕ) (skipped : start ≡ from + bl
   pub next-word : NextWord text from start end
   next-word =
       record {
+        starts = skipped;
+        ends = ran;
         found = is-found;
         none = is-none;
         inside = λ h. omega (arith, ran, run-inside (drop start text), length-drop start text);

@@ -5,6 +5,7 @@ ghost use lib.ListN.{length, drop};
 ghost use Rattle.words.specs.Numbers.{isDigit, spelledBy, countOf, number as numberOf, meaningIn};
 
 pub enum Meaning {
+    // A number of zero or more.
     Plain(u32),
     // How far below zero.
     Below(u32),

@@ -30,7 +30,8 @@ is-digit-requires c κs = search needs
 returns : tie.Need-returns Inv-loop μ-loop
 returns c =
     let at-loop = c .before .before .before .before in
-    sym (at-loop .loop .inv .2 ∙ spelled-stop (at-loop .before .before .args .word .now) (at-loop .loop .i) _ (c .before .before .before .loop-test .taken) (sym (c .before .is-digit .ensures) ∙ not-true _ (c .if1 .taken)))
+    let e = sym (c .before .is-digit .ensures) ∙ not-true _ (c .if1 .taken) in
+    sym (at-loop .loop .inv .2 ∙ spelled-stop (at-loop .before .before .args .word .now) (at-loop .loop .i) _ (c .before .before .before .loop-test .taken) e)
 
 mul-n : tie.Need-mul-n Inv-loop μ-loop
 mul-n c =

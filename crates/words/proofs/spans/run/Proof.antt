@@ -27,7 +27,8 @@ is-blank-requires c κs = search needs
 returns : tie.Need-returns Inv-loop μ-loop
 returns c =
     let at-loop = c .before .before .before .before in
-    let e = run-stop (at-loop .before .before .args .text .now) (at-loop .loop .end) (c .before .before .before .loop-test .taken) (sym (c .before .is-blank .ensures) ∙ c .if1 .taken) in
+    let text = at-loop .before .before .args .text .now in
+    let e = run-stop text (at-loop .loop .end) (c .before .before .before .loop-test .taken) (sym (c .before .is-blank .ensures) ∙ c .if1 .taken) in
     omega (arith, at-loop .loop .inv)
 
 add-end : tie.Need-add-end Inv-loop μ-loop
@@ -39,13 +40,15 @@ loop-less c = search needs
 loop-again : tie.Need-loop-again Inv-loop μ-loop
 loop-again c =
     let at-loop = c .before .before .before .before in
-    let e = run-more (at-loop .before .before .args .text .now) (at-loop .loop .end) (c .before .before .before .loop-test .taken) (sym (c .before .is-blank .ensures) ∙ c .if1 .left) in
+    let text = at-loop .before .before .args .text .now in
+    let e = run-more text (at-loop .loop .end) (c .before .before .before .loop-test .taken) (sym (c .before .is-blank .ensures) ∙ c .if1 .left) in
     omega (arith, at-loop .loop .inv)
 
 returns-2 : tie.Need-returns-2 Inv-loop μ-loop
 returns-2 c =
     let at-loop = c .before in
-    let e = run-end (at-loop .before .before .args .text .now) (at-loop .loop .end) (c .loop-test .left) in
+    let text = at-loop .before .before .args .text .now in
+    let e = run-end text (at-loop .loop .end) (c .loop-test .left) in
     omega (arith, at-loop .loop .inv)
 
 pub run-spec : {M : Type 1} → statement M

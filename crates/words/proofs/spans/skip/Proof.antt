@@ -28,7 +28,8 @@ is-blank-requires c κs = search needs
 returns : tie.Need-returns Inv-loop μ-loop
 returns c =
     let at-loop = c .before .before .before .before in
-    let e = blanks-stop (at-loop .before .before .args .text .now) (at-loop .loop .start) (c .before .before .before .loop-test .taken) (sym (c .before .is-blank .ensures) ∙ not-true _ (c .if1 .taken)) in
+    let text = at-loop .before .before .args .text .now in
+    let e = blanks-stop text (at-loop .loop .start) (c .before .before .before .loop-test .taken) (sym (c .before .is-blank .ensures) ∙ not-true _ (c .if1 .taken)) in
     omega (arith, at-loop .loop .inv)
 
 add-start : tie.Need-add-start Inv-loop μ-loop
@@ -40,13 +41,15 @@ loop-less c = search needs
 loop-again : tie.Need-loop-again Inv-loop μ-loop
 loop-again c =
     let at-loop = c .before .before .before .before in
-    let e = blanks-more (at-loop .before .before .args .text .now) (at-loop .loop .start) (c .before .before .before .loop-test .taken) (sym (c .before .is-blank .ensures) ∙ not-false _ (c .if1 .left)) in
+    let text = at-loop .before .before .args .text .now in
+    let e = blanks-more text (at-loop .loop .start) (c .before .before .before .loop-test .taken) (sym (c .before .is-blank .ensures) ∙ not-false _ (c .if1 .left)) in
     omega (arith, at-loop .loop .inv)
 
 returns-2 : tie.Need-returns-2 Inv-loop μ-loop
 returns-2 c =
     let at-loop = c .before in
-    let e = blanks-end (at-loop .before .before .args .text .now) (at-loop .loop .start) (c .loop-test .left) in
+    let text = at-loop .before .before .args .text .now in
+    let e = blanks-end text (at-loop .loop .start) (c .loop-test .left) in
     omega (arith, at-loop .loop .inv)
 
 pub skip-spec : {M : Type 1} → statement M
