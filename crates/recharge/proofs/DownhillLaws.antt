@@ -21,7 +21,7 @@ use Rattle.paper.proofs.ArrivalLaws.{Arrived, arrived-none, arrived-reached, ar
 use Rattle.survey.specs.Charts.{nextAs}
 use Rattle.survey.proofs.CountLaws.{way-next}
 use Rattle.recharge.specs.Depths.{gatheredLimit, past32}
-use Rattle.recharge.specs.Retention.{table}
+use Rattle.retention.specs.Retention.{table}
 use Rattle.covers.specs.Plots.{Plot, plotBy}
 use Rattle.recharge.specs.CellDay.{figuresWith, figuresBy, CellReady, Fit32}
 use Rattle.records.specs.Answers.{totalsAs}

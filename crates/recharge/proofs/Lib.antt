@@ -1,5 +1,4 @@
 pub mod LossRoom
-pub mod RetentionTable
 pub mod FigureLaws
 pub mod SliceLaws
 pub mod TotalsLaws

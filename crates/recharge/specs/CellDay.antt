@@ -12,7 +12,7 @@ use Rattle.paper.specs.Soil.{SoilDay, soilDay}
 use Rattle.paper.specs.CellDay.{Today, Figures}
 use Rattle.covers.specs.Slots.{mostCapacity}
 use Rattle.recharge.specs.Depths.{gatheredLimit, past32}
-use Rattle.recharge.specs.Retention.{table}
+use Rattle.retention.specs.Retention.{table}
 use Rattle.covers.specs.Plots.{Plot}
 use Rattle.recharge.specs.declared.cell_day.Figures as code
 

@@ -1,5 +1,4 @@
 pub mod Depths
-pub mod Retention
 pub mod Soil
 pub mod Plots
 pub mod CellDay

@@ -9,10 +9,10 @@ ghost use Rattle.recharge.specs.Plots.{plotAs};
 ghost use Rattle.recharge.specs.CellDay.{figuresAs, passedBy, figuresBy, CellReady};
 use crate::outflow::outflow as runoff;
 use crate::plots::Plot;
-use crate::retention::KNOTS;
 use crate::soil::soil_day;
 use crate::ways::Way;
 use records::Depth;
+use retention::KNOTS;
 use weather::Today;
 use weather::melt;
 

@@ -7,8 +7,6 @@ ghost use Rattle.recharge.specs.Downhill.{slicesOf, LentAt, dayAt, Ready
 use crate::cell_day::Figures;
 use crate::cell_day::cell_day;
 use crate::plots::plot_at;
-use crate::retention::KNOTS;
-use crate::retention::retention;
 use crate::totals::add_cell;
 use crate::ways::Way;
 use crate::ways::gone_from;
@@ -19,6 +17,8 @@ use records::MOST_CELLS;
 use records::Totals;
 use records::depth;
 use records::index_of;
+use retention::KNOTS;
+use retention::retention;
 use weather::Today;
 
 // The figures of one cell, by all that is lent, which is only read here.

@@ -5,7 +5,6 @@ mod downhill;
 mod loss;
 mod outflow;
 mod plots;
-mod retention;
 mod soil;
 mod tests;
 mod totals;

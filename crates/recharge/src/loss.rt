@@ -4,12 +4,12 @@ ghost use Prim.Native.Nat.{_≤_, _<_};
 ghost use Rattle.paper.specs.Limits.{mostPotential};
 ghost use Rattle.paper.specs.Retention.{L, loss as rule8};
 ghost use Rattle.covers.specs.Slots.{mostCapacity};
-ghost use Rattle.recharge.specs.Retention.{table};
-use crate::retention::KNOTS;
-use crate::retention::LAST_KNOT;
-use crate::retention::WHOLE;
+ghost use Rattle.retention.specs.Retention.{table};
 use records::Depth;
 use records::wide;
+use retention::KNOTS;
+use retention::LAST_KNOT;
+use retention::WHOLE;
 
 // L of the paper: the share of the soil's water that is lost, in parts of 1,048,576 × capacity. Nothing is rounded in it.
 fn share_lost(f: &[u32; KNOTS], capacity: Depth, shortfall: Depth) -> u64

@@ -5,11 +5,11 @@ ghost use Rattle.paper.specs.Limits.{mostPotential};
 ghost use Rattle.paper.specs.Soil.{wetDay, dryDay, soilDay};
 ghost use Rattle.covers.specs.Slots.{mostCapacity};
 ghost use Rattle.recharge.specs.Depths.{waterLimit};
-ghost use Rattle.recharge.specs.Retention.{table};
+ghost use Rattle.retention.specs.Retention.{table};
 ghost use Rattle.recharge.specs.Soil.{soilDayAs};
 use crate::loss::loss;
-use crate::retention::KNOTS;
 use records::Depth;
+use retention::KNOTS;
 
 pub struct SoilDay {
     pub evapotranspired: Depth,

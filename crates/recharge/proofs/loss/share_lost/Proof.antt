@@ -6,8 +6,8 @@ use native.Mathlib.Omega.{arith}
 use lib.ListN.{getD}
 use borrow.Author.Needs.{needs}
 use Rattle.paper.specs.Retention.{F}
-use Rattle.recharge.specs.Retention.{table}
-use Rattle.recharge.proofs.RetentionTable.{table-at}
+use Rattle.retention.specs.Retention.{table}
+use Rattle.retention.proofs.RetentionTable.{table-at}
 use Rattle.recharge.proofs.LossRoom.{Inside, inside, Past, past}
 use Rattle.recharge.proofs.loss.share_lost.Statement.{statement}
 use Rattle.recharge.proofs.loss.share_lost.Tie as tie

@@ -1,16 +1,16 @@
 // Rule 8's table F, which stands in for the retention table of figure 6 in document 003.
 ghost use mathlib.Core.Path.{_≡_};
-ghost use Rattle.recharge.specs.Retention.{table};
+ghost use Rattle.retention.specs.Retention.{table};
 
 // The table's knots, from 0 on, the last of them, and F at the first, of which F is a part at every other.
-pub(crate) const KNOTS: usize = 2049;
+pub const KNOTS: usize = 2049;
 
-pub(crate) const LAST_KNOT: usize = 2048;
+pub const LAST_KNOT: usize = 2048;
 
-pub(crate) const WHOLE: u64 = 1048576;
+pub const WHOLE: u64 = 1048576;
 
 // The one place that reads the constant: each reading stores it whole, so a call of the library asks once and lends the table down.
-pub(crate) fn retention() -> [u32; KNOTS]
+pub fn retention() -> [u32; KNOTS]
     ensures { λ r. ⌜ r ≡ table ⌝ }
 {
     F

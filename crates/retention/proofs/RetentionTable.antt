@@ -7,7 +7,7 @@ use Rattle.theory.specs.Lists.{made}
 use Rattle.theory.proofs.ListLaws.{made-at}
 use Rattle.paper.specs.Retention.{F}
 use Rattle.paper.proofs.RetentionLaws.{F-start, F-next}
-use Rattle.recharge.specs.Retention.{table}
+use Rattle.retention.specs.Retention.{table}
 
 -- n entries from x on, each next the one before less its 256th part rounded down
 unfoldable pub built : ℕ → ℕ → List ℕ

@@ -1,0 +1,2 @@
+-- Rule 8's table.
+pub mod Retention
