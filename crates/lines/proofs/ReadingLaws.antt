@@ -17,9 +17,9 @@ use Rattle.words.specs.Words.{pieces, kept, words}
 use Rattle.words.specs.Numbers.{Word, good, bad, number, meaningIn}
 use Rattle.words.specs.Spans.{part, NextWord}
 use Rattle.words.specs.declared.numbers.Meaning.the-variants.{Plain, Below, Bad}
-use Rattle.words.proofs.NumberLaws.{Small, number-small}
+use Rattle.words.proofs.NumberLaws.{NineDigits, Small, number-small}
 use Rattle.words.proofs.WordLaws.{words-few}
-use Rattle.lines.specs.Reading.{Reading, andThen, meant, reading, mostBytes, given, negatives, code, codes, noNumber, codeOf, mostNumbers, formAs, Read}
+use Rattle.lines.specs.Reading.{Reading, andThen, meant, reading, mostBytes, given, negatives, code, codes, noNumber, codeOf, mostNumbers, formIn, Read}
 use Rattle.lines.specs.declared.reading.Form.{Form}
 use Rattle.lines.specs.declared.reading.Form.the-variants.{Whole, Broken}
 
@@ -43,13 +43,13 @@ code-bad (good (negsuc k)) e = absurd (let z : _≡_ {A = ℕ} 0 1 = cc in omega
 code-bad bad e = refl
 
 pub below-small : (m : Word) (n : ℕ) → Small m → meaningIn m ≡ Below n → n < negatives
-unfolding meaningIn Small
+unfolding meaningIn Small NineDigits
 below-small (good (pos k)) n s e = absurd (let z : _≡_ {A = ℕ} 0 1 = cc in omega arith)
 below-small (good (negsuc k)) n s e = let same : suc k ≡ n = cc in omega (arith, s)
 below-small bad n s e = absurd (let z : _≡_ {A = ℕ} 0 1 = cc in omega arith)
 
 code-small : (z : ℤ) → Small (good z) → code z < noNumber
-unfolding Small code
+unfolding Small NineDigits code
 code-small (pos n) s = omega (arith, s)
 code-small (negsuc m) s = omega (arith, s)
 
@@ -104,7 +104,7 @@ stands-first input before short =
 all-read :
     (input before numbers : List ℕ) (count : ℕ) (whole : Bool) → count ≤ mostNumbers
     → Left before (reading input) numbers count (record { numbers = []; whole = whole })
-    → Read (reading input) before numbers (formAs whole count)
+    → Read (reading input) before numbers (formIn whole count)
 unfolding codes
 all-read input before numbers count whole most l =
     let n : length (reading input .numbers) ≡ count = l .counted ∙ add-zero count in
@@ -112,7 +112,7 @@ all-read input before numbers count whole most l =
 
 module _ (input before numbers : List ℕ) (count from : ℕ) (s : Stands input before numbers count from) where
   no-more : words (drop from input) ≡ [] → Read (reading input) before numbers (Whole count)
-  unfolding formAs reading meant
+  unfolding formIn reading meant
   no-more e = all-read input before numbers count true (omega (arith, s .room)) (rw e at (s .left))
 
   pub text-end : length input ≤ from → Read (reading input) before numbers (Whole count)
@@ -146,7 +146,7 @@ module _ (input before numbers : List ℕ) (count from : ℕ) (s : Stands input 
           }
 
       pub bad-end : (c : ℕ) → c ≡ codeOf (number word) → noNumber ≤ c → Read (reading input) before numbers (Broken count)
-      unfolding formAs
+      unfolding formIn
       bad-end c e h =
           all-read input before numbers count false (omega (arith, s .room))
           (bad-word before (reading input) numbers count (number word) (reading (drop end input)) c (number-small word) e h (rw onward at (s .left)))
@@ -157,7 +157,7 @@ unfolding given
 read-short input before after r h read = rw (le-ltb mostBytes (length input) h) read
 
 pub read-none : (input before : List ℕ) → mostBytes < length input → Read (given input) before before (Broken 0)
-unfolding given formAs codes
+unfolding given formIn codes
 read-none input before h = rw (lt-ltb mostBytes (length input) h) (record { form = refl; numbers = refl; few = zero-le })
 
 -- the numbers that were read are the front of the lent ones

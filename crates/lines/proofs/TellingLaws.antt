@@ -6,7 +6,7 @@ use native.Mathlib.Omega.{arith}
 use Rattle.paper.specs.Day.{Totals}
 use Rattle.paper.specs.Refusals.{Verdict, accepted, refused, Refusal}
 use Rattle.lines.specs.Lines.{dayLine, refusal}
-use Rattle.lines.specs.Telling.{lineOf, toldAs, Tells}
+use Rattle.lines.specs.Telling.{lineOf, toldIn, Tells}
 use Rattle.lines.specs.Writing.{mostLine, mostRefusal, Wrote}
 use Rattle.lines.specs.declared.telling.Told.the-variants.{More, Last}
 
@@ -15,13 +15,13 @@ pub tells-line :
     (v : Verdict) (t : Totals) (at serial : ℕ) (before after : List ℕ) (next : ℕ) → v ≡ accepted
     → Wrote mostLine at (dayLine serial t) before after next
     → Tells at serial t v before after (More next)
-unfolding lineOf toldAs
+unfolding lineOf toldIn
 tells-line v t at serial before after next e w = rw e (record { next = next; result = refl; line = w })
 
 pub tells-refusal :
     (v : Verdict) (t : Totals) (at serial : ℕ) (why : Refusal) (before after : List ℕ) (next : ℕ) → v ≡ refused why
     → Wrote mostRefusal at (refusal why) before after next
     → Tells at serial t v before after (Last next)
-unfolding lineOf toldAs
+unfolding lineOf toldIn
 tells-refusal v t at serial why before after next e w =
     rw e (record { next = next; result = refl; line = record { put = w .put; short = omega (arith, w .short) } })

@@ -63,12 +63,12 @@ codeOf bad = noNumber
 abbrev pub mostNumbers : ℕ
 mostNumbers = 32768
 
-unfoldable pub formAs : Bool → ℕ → Form
-formAs true n = Whole n
-formAs false n = Broken n
+unfoldable pub formIn : Bool → ℕ → Form
+formIn true n = Whole n
+formIn false n = Broken n
 
 -- the codes of all that was read stand at the front of the lent numbers, which have room for them, and the others are as lent
 pub record Read (all : Reading) (before after : List ℕ) (r : Form) : Type 0 where
-  pub form : r ≡ formAs (all .whole) (length (all .numbers))
+  pub form : r ≡ formIn (all .whole) (length (all .numbers))
   pub numbers : after ≡ sets before 0 (codes (all .numbers))
   pub few : length (all .numbers) ≤ mostNumbers

@@ -14,11 +14,11 @@ unfoldable pub lineOf : ℕ → paper.Totals → Verdict → List ℕ
 lineOf serial totals accepted = dayLine serial totals
 lineOf serial totals (refused why) = refusal why
 
-unfoldable pub toldAs : Verdict → ℕ → Told
-toldAs accepted next = More next
-toldAs (refused why) next = Last next
+unfoldable pub toldIn : Verdict → ℕ → Told
+toldIn accepted next = More next
+toldIn (refused why) next = Last next
 
 pub record Tells (at serial : ℕ) (totals : paper.Totals) (verdict : Verdict) (before after : List ℕ) (r : Told) : Type 0 where
   pub next : ℕ
-  pub result : r ≡ toldAs verdict next
+  pub result : r ≡ toldIn verdict next
   pub line : Wrote mostLine at (lineOf serial totals verdict) before after next

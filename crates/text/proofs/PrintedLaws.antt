@@ -11,7 +11,7 @@ use borrow.Author.Tests.{lt-ltb, le-ltb}
 use Rattle.theory.proofs.Cases.{byCases, below-or-not}
 use Rattle.lines.specs.Lines.{refusedLine}
 use Rattle.text.specs.Program.{runText, screen, screenText, numbersText, formText, printed}
-use Rattle.lines.specs.Reading.{mostBytes, given, codes, mostNumbers, formAs, Read}
+use Rattle.lines.specs.Reading.{mostBytes, given, codes, mostNumbers, formIn, Read}
 use Rattle.text.specs.Run.{mostText, Coded, Printed}
 use Rattle.lines.specs.Writing.{Wrote}
 use Rattle.lines.specs.declared.reading.Form.{Form}
@@ -59,13 +59,13 @@ module _ (input : List ℕ) where
       pub coded : Coded (take count after)
       pub whole : text ≡ numbersText (take count after)
 
-    of-form : (whole : Bool) (n : ℕ) → formAs whole n ≡ Whole count → (whole ≡ true) × (n ≡ count)
-    unfolding formAs
+    of-form : (whole : Bool) (n : ℕ) → formIn whole n ≡ Whole count → (whole ≡ true) × (n ≡ count)
+    unfolding formIn
     of-form true n e = (refl, (cc))
     of-form false n e = absurd (let z : _≡_ {A = ℕ} 0 1 = cc in omega arith)
 
-    of-fault : (whole : Bool) (n : ℕ) → formAs whole n ≡ Broken count → (whole ≡ false) × (n ≡ count)
-    unfolding formAs
+    of-fault : (whole : Bool) (n : ℕ) → formIn whole n ≡ Broken count → (whole ≡ false) × (n ≡ count)
+    unfolding formIn
     of-fault true n e = absurd (let z : _≡_ {A = ℕ} 0 1 = cc in omega arith)
     of-fault false n e = (refl, (cc))
 

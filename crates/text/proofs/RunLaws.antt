@@ -16,7 +16,7 @@ use Rattle.paper.specs.State.{State, Day}
 use Rattle.lines.specs.Lines.{dayLine, endLine, refusal}
 use Rattle.text.specs.Program.{daysFrom, dayCount, dayAt, dayText, daysText}
 use Rattle.text.specs.Run.{mostText, Coded}
-use Rattle.lines.specs.Telling.{lineOf, toldAs, Tells}
+use Rattle.lines.specs.Telling.{lineOf, toldIn, Tells}
 use Rattle.lines.specs.Writing.{mostLine, mostEnd, Wrote}
 use Rattle.lines.specs.declared.telling.Told.{Told}
 use Rattle.lines.specs.declared.telling.Told.the-variants.{More, Last}
@@ -104,7 +104,7 @@ module _ (ns : List ℕ) (s : Setup) (st₀ : State) (r₀ : Results) (before no
           → record { verdict = v; results = left; totals = t; state = st′ } ≡ dayOf s st r d
           → Tells at (d .serial) t v now after told → told ≡ Last next
           → Wrote mostText 0 (daysText s st₀ r₀ 0 days) before after next
-      unfolding lineOf toldAs
+      unfolding lineOf toldIn
       told-last accepted left t st′ after told next e w is = absurd (let result = w .result in let z : _≡_ {A = ℕ} 0 1 = cc in omega arith)
       told-last (refused why) left t st′ after told next e w is =
           let result = w .result in
@@ -117,7 +117,7 @@ module _ (ns : List ℕ) (s : Setup) (st₀ : State) (r₀ : Results) (before no
           → record { verdict = v; results = left; totals = t; state = st′ } ≡ dayOf s st r d
           → Tells at (d .serial) t v now after told → told ≡ More next
           → Underway s st₀ r₀ days before after st′ held next (done + 1) (k + 1)
-      unfolding lineOf toldAs
+      unfolding lineOf toldIn
       told-more accepted left held t st′ after told next same e w is =
           let result = w .result in
           let same-next : w .next ≡ next = cc in

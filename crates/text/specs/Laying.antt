@@ -1,4 +1,4 @@
--- The setup of the input's numbers, each list of it at the front of an array.
+-- The setup of the input's numbers: each list of its cells at the front of an array.
 use mathlib.Core.List.{List}
 use mathlib.Core.Path.{_≡_}
 use Prim.Native.Nat.{ℕ, _≤_}

@@ -14,7 +14,7 @@ use borrow.Author.Tests.{lt-ltb, le-ltb, le-leb, leb-true, eqb-true}
 use Rattle.theory.proofs.Cases.{byCases, below-or-not, and-left, and-right, and-both}
 use Rattle.words.specs.Numbers.{isDigit, allDigits, spelled, isFirstDigit, isZero, isCount, number, good, bad}
 use Rattle.words.specs.Digits.{digitsWithin, digits, written}
-use Rattle.words.proofs.NumberLaws.{digit-low, digit-high, First, first-tests, count-above}
+use Rattle.words.proofs.NumberLaws.{digit-low, digit-high, First, first-tests, count-above, NineDigits}
 
 within-one : (most n : ℕ) → n < 10 → digitsWithin most n ≡ (48 + n) ∷ []
 unfolding digitsWithin
@@ -131,16 +131,12 @@ below-number n s =
     rw (s .same, s .tests .first?, le-leb (length (s .rest)) 8 short, s .digits?, zero-add (s .first - 48), s .value)
     (ap (λ (k : ℕ). good (negsuc k)) (omega arith))
 
-plain-back : (n : ℕ) → n ≤ 999999999 → number (digits n) ≡ good (pos n)
+plain-back : (n : ℕ) → n < 1000000000 → number (digits n) ≡ good (pos n)
 unfolding number isZero spelled digits digitsWithin
 plain-back zero h = refl
 plain-back (suc n) h = spelled-number (suc n) (spells 8 (suc n) (omega arith) (omega arith))
 
 -- what is written of a number of at most nine digits is read as that number
-unfoldable pub NineDigits : ℤ → Type 0
-NineDigits (pos n) = n ≤ 999999999
-NineDigits (negsuc m) = suc m ≤ 999999999
-
 pub read-back : (z : ℤ) → NineDigits z → number (written z) ≡ good z
 unfolding written NineDigits
 read-back (pos n) h = plain-back n h

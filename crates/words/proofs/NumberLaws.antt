@@ -7,7 +7,7 @@ use native.Mathlib.Nat.{not-suc-le-zero, add-zero, add-suc, suc-add, sub-self, p
 use native.Mathlib.Numerals.{add-one}
 use native.Mathlib.Omega.{arith}
 use lib.Dec.{eqb, leb, lit≤, eqb·suc-zero}
-use lib.IntN.{pos, negsuc}
+use lib.IntN.{ℤ, pos, negsuc}
 use lib.ListN.{length, getD, drop, length-drop, drop-of-length-le}
 use lib.Seq.{drop-cons}
 use borrow.Author.Tests.{le-leb, lt-leb, eq-eqb, ne-eqb, leb-true, eqb-true}
@@ -191,13 +191,16 @@ count-below (b ∷ bs) e =
     omega (arith, spelled-below bs (10 * 0 + (b - 48)) 1 (and-right (leb (length bs) 8) (allDigits bs) rest) (omega arith))
 
 -- so a word's number is at most nine digits away from zero
+unfoldable pub NineDigits : ℤ → Type 0
+NineDigits (pos n) = n < 1000000000
+NineDigits (negsuc m) = suc m < 1000000000
+
 unfoldable pub Small : Word → Type 0
-Small (good (pos n)) = n < 1000000000
-Small (good (negsuc m)) = suc m < 1000000000
+Small (good z) = NineDigits z
 Small bad = Unit {0}
 
 small-below : (bs : List ℕ) → Small (cond (isCount bs) (good (negsuc (spelled 0 bs - 1))) bad)
-unfolding Small
+unfolding Small NineDigits
 small-below bs = byCases (isCount bs) (λ e. rw e (omega (arith, count-below bs e))) (λ e. rw e tt)
 
 small-zero : (w : List ℕ) → isZero w ≡ true → spelled 0 w < 1000000000
@@ -207,7 +210,7 @@ small-zero (b ∷ []) e = rw (eqb-true b 48 (and-left (eqb b 48) (eqb 0 0) e)) (
 small-zero (b ∷ x ∷ xs) e = absurd (omega (arith, eqb-true (suc (length xs)) 0 (and-right (eqb b 48) (eqb (suc (length xs)) 0) e)))
 
 small-plain : (w : List ℕ) → Small (cond (isZero w || isCount w) (good (pos (spelled 0 w))) bad)
-unfolding Small
+unfolding Small NineDigits
 small-plain w =
     byCases (isZero w) (λ e. rw e (small-zero w e)) (λ e. byCases (isCount w) (λ d. rw (e, d) (count-below w d)) (λ d. rw (e, d) tt))
 
