@@ -7,7 +7,7 @@ use Rattle.theory.specs.Lists.{made}
 use Rattle.theory.specs.Sums.{sum, given}
 use Rattle.paper.specs.Directions.{Goes, to, leaves, stays, openWater}
 use Rattle.paper.specs.Setup.{Setup, cell, cells, goes, next}
-use Rattle.paper.specs.State.{State, Day, serial, noPast, remembered, freshState, soilAt, snowAt}
+use Rattle.paper.specs.State.{State, Day, noPast, pastAfter, freshState, soilAt, snowAt}
 use Rattle.paper.specs.CellDay.{Today, today, ownOf, passedOf, Figures, cellDay}
 use Rattle.paper.specs.Flow.{arriving, water}
 use Rattle.paper.specs.Refusals.{Verdict, accepted, refused, verdict, setupLengths, setupTests, dayTests}
@@ -103,7 +103,7 @@ nextState s st d figure =
     record {
       soil = made (cells s) (λ i. figure i .soil);
       snow = made (cells s) (λ i. figure i .snow);
-      past = record { memory = remembered (st .past .memory) (d .gross); last = serial (d .serial) };
+      past = pastAfter (st .past) d;
     }
 
 -- one day: with the lent results as they were before the call

@@ -69,6 +69,10 @@ pub record Day : Type 0 where
   -- potential evapotranspiration
   pub potential : ℕ
 
+-- after an accepted day: its gross figure is remembered, and its serial is the last
+abbrev pub pastAfter : Past → Day → Past
+pastAfter p d = record { memory = remembered (p .memory) (d .gross); last = serial (d .serial) }
+
 -- soil 0 to the cell's capacity, 0 on open water
 unfoldable pub mostSoilOf : Cell → ℕ
 mostSoilOf c = cond (c .open?) 0 (c .capacity)

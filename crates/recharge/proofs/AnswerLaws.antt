@@ -16,7 +16,7 @@ use Rattle.theory.proofs.SumLaws.{sum-cong}
 use Rattle.paper.specs.Limits.{mostGross}
 use Rattle.paper.specs.Directions.{Goes, to, leaves, stays, openWater}
 use Rattle.paper.specs.Setup.{Setup, cell, cells, availableOf, goes, pointed, next}
-use Rattle.paper.specs.State.{State, Day, Past, remembered, serial, soilAt, snowAt}
+use Rattle.paper.specs.State.{State, Day, Past, pastAfter, soilAt, snowAt}
 use Rattle.paper.specs.CellDay.{Today, today, Figures, cellDay}
 use Rattle.paper.specs.CurveNumber.{curveNumber}
 use Rattle.paper.specs.Refusals.{Verdict, accepted, refused, oneEach, setupLengths}
@@ -238,7 +238,7 @@ module _ (s : Setup) (st : State) (r : paper.Results) (d : Day) (before ways₀ 
 
   -- the whole answer of an accepted day
   pub accepted-answer : paper.verdictOf s st r d ≡ accepted → (o : code.Verdict) → o ≡ Accepted → (past : Past)
-      → past ≡ record { memory = remembered (st .past .memory) (d .gross); last = serial (d .serial) } → (totals : Totals) (after : pass.Slices)
+      → past ≡ pastAfter (st .past) d → (told totals : Totals) → told ≡ totals → (after : pass.Slices)
       → pass.Ran t plots slots ways (s .available) (st .soil) (st .snow) totals after
       → record {
         verdict = verdictAs o;
@@ -250,12 +250,12 @@ module _ (s : Setup) (st : State) (r : paper.Results) (d : Day) (before ways₀ 
               recharged = after .recharged;
               rejected = after .rejected;
             };
-        totals = totalsAs totals;
+        totals = totalsAs told;
         state = record { soil = after .soil; snow = after .snow; past = past };
       }
       ≡ paper.dayOf s st r d
   unfolding paper.outcomeAs paper.resultsOf paper.nextState pass.slicesBy
-  accepted-answer v o passed past next totals after ran =
+  accepted-answer v o passed past next told totals same-totals after ran =
       (λ k. record {
         verdict = verdictAs (passed k);
         results =
@@ -266,7 +266,7 @@ module _ (s : Setup) (st : State) (r : paper.Results) (d : Day) (before ways₀ 
               recharged = (same k) .recharged;
               rejected = (same k) .rejected;
             };
-        totals = (ran .summed ∙ totals-same _ _ _ _ (lent .waters) today-gross figure-same gone-same) k;
+        totals = (ap totalsAs same-totals ∙ ran .summed ∙ totals-same _ _ _ _ (lent .waters) today-gross figure-same gone-same) k;
         state = record { soil = (same k) .soil; snow = (same k) .snow; past = next k };
       })
       ∙ sym (days.accepted-is s st r d v)

@@ -3,5 +3,4 @@ pub mod FigureLaws
 pub mod SliceLaws
 pub mod TotalsLaws
 pub mod DownhillLaws
-pub mod TestLaws
 pub mod AnswerLaws

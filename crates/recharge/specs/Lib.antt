@@ -4,4 +4,3 @@ pub mod Plots
 pub mod CellDay
 pub mod Totals
 pub mod Downhill
-pub mod Tests

@@ -6,17 +6,15 @@ ghost use Rattle.records.specs.Past.{stateAs};
 ghost use Rattle.records.specs.Days.{dayAs};
 ghost use Rattle.records.specs.Answers.{resultsAs, outcomeAs};
 use crate::downhill::downhill;
-use crate::tests::Lengths;
-use crate::tests::tests;
+use admission::Lengths;
+use admission::admit;
 use covers::PLOT_ROOM;
 use records::Answer;
 use records::DayRecord;
 use records::Grid;
-use records::Last;
 use records::MOST_CELLS;
 use records::Past;
 use records::Season;
-use records::Totals;
 use records::Verdict;
 
 // One day: tests 1 to 10, then the five results and the two stores of every cell, the totals, the next memory and the serial. A day refused hands
@@ -56,7 +54,7 @@ pub fn day(
         recharged: recharged.len(),
         rejected: rejected.len(),
     };
-    let tested = tests(
+    let tested = admit(
         grid,
         season,
         covers,
@@ -76,11 +74,7 @@ pub fn day(
     );
     let verdict = tested.verdict;
     let Verdict::Accepted = verdict else {
-        return Answer {
-            verdict,
-            totals: Totals::none(),
-            past,
-        };
+        return Answer::refused(verdict, past);
     };
     let totals = downhill(
         tested.today,
@@ -97,14 +91,5 @@ pub fn day(
         recharged,
         rejected,
     );
-    let memory = past.memory;
-    let next = Past {
-        memory: memory.next(day.gross),
-        last: Last::Serial(day.serial),
-    };
-    Answer {
-        verdict,
-        totals,
-        past: next,
-    }
+    Answer::accepted(totals, past.after(day))
 }

@@ -6,7 +6,6 @@ mod loss;
 mod outflow;
 mod plots;
 mod soil;
-mod tests;
 mod totals;
 mod ways;
 

@@ -2,6 +2,7 @@
 ghost use mathlib.Core.Path.{_≡_};
 ghost use Rattle.paper.specs.Day.{noTotals};
 ghost use Rattle.records.specs.Answers.{totalsAs};
+ghost use Rattle.records.specs.declared.verdicts.Verdict.the-variants.{Accepted};
 use crate::past::Past;
 use crate::quantities::Depth;
 use crate::verdicts::Verdict;
@@ -20,6 +21,29 @@ pub struct Answer {
     pub verdict: Verdict,
     pub totals: Totals,
     pub past: Past,
+}
+
+impl Answer {
+    // A refused day hands back what it was given, and no totals.
+    pub fn refused(verdict: Verdict, past: Past) -> Answer
+        ensures { λ r. ⌜ (r .verdict ≡ verdict) × (totalsAs (r .totals) ≡ noTotals) × (r .past ≡ past) ⌝ }
+    {
+        Answer {
+            verdict,
+            totals: Totals::none(),
+            past,
+        }
+    }
+
+    pub fn accepted(totals: Totals, past: Past) -> Answer
+        ensures { λ r. ⌜ (r .verdict ≡ Accepted) × (r .totals ≡ totals) × (r .past ≡ past) ⌝ }
+    {
+        Answer {
+            verdict: Verdict::Accepted,
+            totals,
+            past,
+        }
+    }
 }
 
 // What a fresh state has besides its stores.

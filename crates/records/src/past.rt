@@ -1,7 +1,8 @@
 // What a state has besides its stores: the rain memory and the last serial, with their limits, which belong to test 9.
 ghost use mathlib.Core.Path.{_≡_};
-ghost use Rattle.paper.specs.State.{remembered, memoryFits, lastFits, pastFits, noPast, follows};
+ghost use Rattle.paper.specs.State.{remembered, memoryFits, lastFits, pastFits, noPast, pastAfter, follows};
 ghost use Rattle.records.specs.Past.{memoryAs, lastAs, pastAs};
+ghost use Rattle.records.specs.Days.{dayAs};
 use crate::days::DayRecord;
 use crate::quantities::Depth;
 
@@ -90,6 +91,18 @@ impl Past {
         Past {
             memory,
             last: Last::Never,
+        }
+    }
+
+    // After an accepted day: its gross figure is remembered, and its serial is the last.
+    pub fn after(self, day: DayRecord) -> Past
+        ensures { λ r. ⌜ pastAs r ≡ pastAfter (pastAs self) (dayAs day) ⌝ }
+    {
+        let memory = self.memory;
+        let gross = day.gross;
+        Past {
+            memory: memory.next(gross),
+            last: Last::Serial(day.serial),
         }
     }
 

@@ -1,16 +1,16 @@
 -- `calls::day` meets its contract: refused, it hands back what it was given; accepted, the pass downhill is handed what the tests left.
 use mathlib.Core.List.{[], _∷_}
-use mathlib.Core.Path.{_≡_, refl, sym, _∙_}
+use mathlib.Core.Path.{_≡_, sym, ap, _∙_}
 use types.Run.{miss}
 use borrow.Author.Needs.{needs}
 use Rattle.paper.specs.Setup.{Setup}
-use Rattle.paper.specs.State.{State, serial}
+use Rattle.paper.specs.State.{State}
 use Rattle.paper.specs.CellDay.{today}
 use Rattle.paper.specs.Refusals.{accepted}
 use Rattle.paper.specs.Day.{Results, verdictOf, lengthsOf}
 use Rattle.paper.proofs.DayLaws.{SoundDay, sound-day}
 use Rattle.records.specs.Grids.{setupAs}
-use Rattle.records.specs.Past.{stateAs}
+use Rattle.records.specs.Past.{pastAs, stateAs}
 use Rattle.records.specs.Days.{dayAs}
 use Rattle.records.specs.Answers.{resultsAs}
 use Rattle.records.proofs.VerdictLaws.{accepted-back}
@@ -21,7 +21,7 @@ use Rattle.recharge.proofs.calls.day.Statement.{statement}
 use Rattle.recharge.proofs.calls.day.Tie as tie
 
 -- what was handed over, as the paper's
-abbrev start : tie.After-tests → tie.Start
+abbrev start : tie.After-admit → tie.Start
 start c = c .before .before .before .before .before .before .before .before .before .before .before .before .before .before .before .before .before .before .before
 
 abbrev setup : tie.Start → Setup
@@ -41,20 +41,21 @@ unfolding verdictOf lengthsOf
 returns c =
     let match = c .before .before in
     let s = start (match .before) in
-    refused-answer (setup s) (state s) (results s) (dayAs (s .args .day)) _ _ _ (state s) refl (c .none .ensures) refl (match .before .tests .ensures .verdict-is)
+    refused-answer (setup s) (state s) (results s) (dayAs (s .args .day)) _ _ _ _
+    (c .refused .ensures .0) (c .refused .ensures .1) (ap (stateAs (s .args .soil .now) (s .args .snow .now)) (c .refused .ensures .2)) (match .before .admit .ensures .verdict-is)
     (λ e. miss (1 ∷ []) 0 tt (rw e at (match .match .keys2)))
 
 -- an accepted day passed all the tests, and its weather is the paper's
 passed : (c : tie.After-enum-told) → let s = start (c .before .before) in verdictOf (setup s) (state s) (results s) (dayAs (s .args .day)) ≡ accepted
 unfolding verdictOf lengthsOf
-passed c = accepted-back _ (sym (c .enum-told .given .1) ∙ c .before .before .tests .ensures .verdict-is)
+passed c = accepted-back _ (sym (c .enum-told .given .1) ∙ c .before .before .admit .ensures .verdict-is)
 
 sound : (c : tie.After-enum-told) → let s = start (c .before .before) in SoundDay (setup s) (state s) (results s) (dayAs (s .args .day))
 sound c = let s = start (c .before .before) in sound-day (setup s) (state s) (results s) (dayAs (s .args .day)) (passed c)
 
 weather : (c : tie.After-enum-told) → let s = start (c .before .before) in
-    todayAs (c .before .before .tests .result .today) ≡ today (setup s .season) (state s .past) (dayAs (s .args .day))
-weather c = let ok = sound c in c .before .before .tests .ensures .weather ∙ today-fits _ _ _ (ok .day) (ok .memory)
+    todayAs (c .before .before .admit .result .today) ≡ today (setup s .season) (state s .past) (dayAs (s .args .day))
+weather c = let ok = sound c in c .before .before .admit .ensures .weather ∙ today-fits _ _ _ (ok .day) (ok .memory)
 
 downhill-requires : tie.Need-downhill-requires
 unfolding verdictOf lengthsOf
@@ -63,19 +64,41 @@ downhill-requires c κs =
     let tested = told .before .before in
     let s = start tested in
     let p = passed told in
-    ready (setup s) (state s) (results s) (dayAs (s .args .day)) _ _ _ _ _ _ _ _ (sound told) (tested .tests .ensures .mapped p) (weather told)
-    (tested .tests .ensures .plotted p)
+    ready (setup s) (state s) (results s) (dayAs (s .args .day)) _ _ _ _ _ _ _ _ (sound told) (tested .admit .ensures .mapped p) (weather told)
+    (tested .admit .ensures .plotted p)
 
 returns-2 : tie.Need-returns-2
 unfolding verdictOf lengthsOf
 returns-2 c =
-    let ran = c .before .before .before .before .before .before .before .before .before .before .before .before .before .before .before .before in
+    let after = c .before in
+    let ran = after .before .before .before .before .before .before .before .before .before .before .before .before .before .before .before in
     let told = ran .before .before .before .before .before .before .before .before .before .before .before .before in
     let tested = told .before .before in
     let s = start tested in
     let p = passed told in
-    accepted-answer (setup s) (state s) (results s) (dayAs (s .args .day)) _ _ _ _ _ _ _ _ (sound told) (tested .tests .ensures .mapped p) (weather told)
-    (tested .tests .ensures .plotted p) p _ (told .enum-told .given .1) _ (λ k. record { memory = c .next .ensures k; last = serial (s .args .day .serial) }) _ _ (ran .downhill .ensures)
+    accepted-answer (setup s) (state s) (results s) (dayAs (s .args .day)) _ _ _ _ _ _ _ _ (sound told) (tested .admit .ensures .mapped p) (weather told)
+    (tested .admit .ensures .plotted p) p _ (c .accepted .ensures .0) _ (ap pastAs (c .accepted .ensures .2) ∙ after .after .ensures) _ _ (c .accepted .ensures .1) _ (ran .downhill .ensures)
+
+same-length-3 : tie.Need-same-length-3
+same-length-3 c = c .before .before .before .before .before .before .before .before .before .before .before .before .before .before .before .soil .given
+
+same-length-4 : tie.Need-same-length-4
+same-length-4 c = c .before .before .before .before .before .before .before .before .before .before .before .before .before .snow .given
+
+same-length-5 : tie.Need-same-length-5
+same-length-5 c = c .before .before .before .before .before .before .before .before .before .before .before .intercepted .given
+
+same-length-6 : tie.Need-same-length-6
+same-length-6 c = c .before .before .before .before .before .before .before .before .before .outflow .given
+
+same-length-7 : tie.Need-same-length-7
+same-length-7 c = c .before .before .before .before .before .before .before .evapotranspired .given
+
+same-length-8 : tie.Need-same-length-8
+same-length-8 c = c .before .before .before .before .before .recharged .given
+
+same-length-9 : tie.Need-same-length-9
+same-length-9 c = c .before .before .before .rejected .given
 
 pub day-spec : {M : Type 1} → statement M
 day-spec =
@@ -90,11 +113,12 @@ day-spec =
     returns
     downhill-requires
     (λ c κs. search needs)
-    (λ c. search needs)
-    (λ c. search needs)
-    (λ c. search needs)
-    (λ c. search needs)
-    (λ c. search needs)
-    (λ c. search needs)
-    (λ c. search needs)
+    (λ c κs. search needs)
+    same-length-3
+    same-length-4
+    same-length-5
+    same-length-6
+    same-length-7
+    same-length-8
+    same-length-9
     returns-2)

@@ -9,7 +9,7 @@ ghost use Rattle.records.specs.Verdicts.{verdictIn};
 ghost use Rattle.weather.specs.Today.{todayAs};
 ghost use Rattle.covers.specs.Plots.{plotsOf};
 ghost use Rattle.stores.specs.States.{lentTests};
-ghost use Rattle.recharge.specs.Tests.{dayLengths, laterTests, AllTested};
+ghost use Rattle.admission.specs.Tests.{dayLengths, laterTests, AllTested};
 use covers::PLOT_ROOM;
 use covers::lay_plots;
 use records::DayRecord;
@@ -28,18 +28,18 @@ use weather::Today;
 use weather::today_of;
 
 // The lengths of the lent results.
-pub(crate) struct Lengths {
-    pub(crate) intercepted: usize,
-    pub(crate) outflow: usize,
-    pub(crate) evapotranspired: usize,
-    pub(crate) recharged: usize,
-    pub(crate) rejected: usize,
+pub struct Lengths {
+    pub intercepted: usize,
+    pub outflow: usize,
+    pub evapotranspired: usize,
+    pub recharged: usize,
+    pub rejected: usize,
 }
 
 // The verdict of the ten tests, and the day's weather, which is worked out once.
-pub(crate) struct Tested {
-    pub(crate) verdict: Verdict,
-    pub(crate) today: Today,
+pub struct Tested {
+    pub verdict: Verdict,
+    pub today: Today,
 }
 
 // Tests 1 and 2 of the stores and the results: the survey tests the setup's own slices.
@@ -99,7 +99,7 @@ fn day_tests(
 }
 
 // Tests 1 to 10, which leave the arrays of the setup and of the day where they all pass.
-pub(crate) fn tests(
+pub fn admit(
     grid: Grid,
     season: Season,
     covers: &[u32],

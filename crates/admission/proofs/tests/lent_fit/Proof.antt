@@ -11,9 +11,9 @@ use Rattle.paper.specs.Refusals.{oneEach}
 use Rattle.records.specs.Grids.{gridAs}
 use Rattle.records.specs.Verdicts.{verdictIn}
 use Rattle.survey.proofs.CallLaws.{each-both}
-use Rattle.recharge.proofs.TestLaws.{no-grid, not-each, lent-good}
-use Rattle.recharge.proofs.tests.lent_fit.Statement.{statement}
-use Rattle.recharge.proofs.tests.lent_fit.Tie as tie
+use Rattle.admission.proofs.TestLaws.{no-grid, not-each, lent-good}
+use Rattle.admission.proofs.tests.lent_fit.Statement.{statement}
+use Rattle.admission.proofs.tests.lent_fit.Tie as tie
 
 returns : tie.Need-returns
 returns c = ap verdictIn (sym (no-grid _ _ (sym (c .before .fits2 .ensures) ∙ not-true _ (c .if1 .taken))))

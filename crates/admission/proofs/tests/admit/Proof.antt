@@ -1,4 +1,4 @@
--- `tests::tests` meets its contract: each way out is the verdict of the tests up to there, which decides all ten; past the last, the arrays are the
+-- `tests::admit` meets its contract: each way out is the verdict of the tests up to there, which decides all ten; past the last, the arrays are the
 -- survey's and the day's.
 use mathlib.Core.Bool.{true}
 use mathlib.Core.List.{List, [], _∷_}
@@ -14,10 +14,10 @@ use Rattle.records.specs.Grids.{setupAs}
 use Rattle.records.specs.Past.{stateAs}
 use Rattle.records.specs.Days.{dayAs}
 use Rattle.records.proofs.VerdictLaws.{accepted-back}
-use Rattle.recharge.specs.Tests.{dayLengths}
-use Rattle.recharge.proofs.TestLaws.{lent-passes, two-each, lent-decides, survey-decides, day-decides}
-use Rattle.recharge.proofs.tests.tests.Statement.{statement}
-use Rattle.recharge.proofs.tests.tests.Tie as tie
+use Rattle.admission.specs.Tests.{dayLengths}
+use Rattle.admission.proofs.TestLaws.{lent-passes, two-each, lent-decides, survey-decides, day-decides}
+use Rattle.admission.proofs.tests.admit.Statement.{statement}
+use Rattle.admission.proofs.tests.admit.Tie as tie
 
 -- what was handed over, as the paper's
 abbrev setup : tie.Start → Setup
@@ -65,8 +65,8 @@ returns-3 c =
     day-decides (setup s) (more s) (state s) (dayAs (s .args .day)) _ _ _ _ (lent .before .today-of .ensures) _ _ _ _ (each told) _ (surveyed .survey .ensures)
     (passed .enum-told3 .given .1) (sizes .0) (sizes .1) (c .day-tests .ensures .0) (c .day-tests .ensures .1)
 
-pub tests-spec : {M : Type 1} → statement M
-tests-spec =
+pub admit-spec : {M : Type 1} → statement M
+admit-spec =
     tie.close
     (tie.spec
     (λ c κs. search needs)

@@ -29,8 +29,8 @@ use Rattle.survey.proofs.CallLaws.{grid-bad, more-bad, more-fit}
 use Rattle.stores.specs.States.{lentTests, stateTests}
 use Rattle.stores.specs.Snowfall.{Falls, snowTests}
 use Rattle.stores.proofs.TestLaws as stores
-use Rattle.recharge.specs.Tests.{laterTests, allTests, AllTested}
-use Rattle.recharge.specs.declared.tests.Tested.{Tested}
+use Rattle.admission.specs.Tests.{laterTests, allTests, AllTested}
+use Rattle.admission.specs.declared.tests.Tested.{Tested}
 
 -- no verdict is both
 clash : (why : Refusal) → accepted ≡ refused why → ⊥

@@ -11,9 +11,9 @@ use Rattle.records.specs.Days.{dayAs}
 use Rattle.records.specs.Past.{lastAs}
 use Rattle.records.specs.Verdicts.{verdictIn}
 use Rattle.records.proofs.VerdictLaws.{accepted-back}
-use Rattle.recharge.proofs.TestLaws.{stands, day-bad, serial-bad, record-good}
-use Rattle.recharge.proofs.tests.day_tests.Statement.{statement}
-use Rattle.recharge.proofs.tests.day_tests.Tie as tie
+use Rattle.admission.proofs.TestLaws.{stands, day-bad, serial-bad, record-good}
+use Rattle.admission.proofs.tests.day_tests.Statement.{statement}
+use Rattle.admission.proofs.tests.day_tests.Tie as tie
 
 returns : tie.Need-returns
 returns c = (

@@ -11,8 +11,8 @@ use Rattle.covers.specs.Plots.{plotsOf}
 use Rattle.survey.specs.Charts.{Mapped}
 use Rattle.stores.specs.States.{stateTests}
 use Rattle.stores.specs.Snowfall.{snowTests}
-use Rattle.recharge.specs.declared.tests.Lengths.{Lengths}
-use Rattle.recharge.specs.declared.tests.Tested.{Tested}
+use Rattle.admission.specs.declared.tests.Lengths.{Lengths}
+use Rattle.admission.specs.declared.tests.Tested.{Tested}
 
 -- the lengths of the stores and of the results
 abbrev pub dayLengths : ℕ → ℕ → Lengths → List ℕ
