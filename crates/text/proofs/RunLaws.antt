@@ -14,12 +14,13 @@ use Rattle.paper.specs.Refusals.{Refusal, Verdict, accepted, refused}
 use Rattle.paper.specs.Setup.{Setup}
 use Rattle.paper.specs.State.{State, Day}
 use Rattle.lines.specs.Lines.{dayLine, endLine, refusal}
-use Rattle.text.specs.Program.{daysFrom, dayCount, dayAt, dayText, daysText}
+use Rattle.text.specs.Program.{daysFrom, dayCount, dayAt, noResults, dayText, daysText}
 use Rattle.text.specs.Run.{mostText, Coded}
 use Rattle.lines.specs.Telling.{lineOf, toldIn, Tells}
 use Rattle.lines.specs.Writing.{mostLine, mostEnd, Wrote}
 use Rattle.lines.specs.declared.telling.Told.{Told}
 use Rattle.lines.specs.declared.telling.Told.the-variants.{More, Last}
+use Rattle.text.proofs.OneDayLaws.{parts, Room}
 use Rattle.words.proofs.WritingLaws.{sets-append}
 use Rattle.lines.proofs.WritingLaws.{wrote-length}
 
@@ -132,3 +133,11 @@ module _ (ns : List ℕ) (s : Setup) (st₀ : State) (r₀ : Results) (before no
                 (onward-then (dayLine (d .serial) t) (daysText s st′ left (suc k) (drop (suc k) days)) (rw (more-text _ e refl) at (u .text)) line room);
           }
       told-more (refused why) left held t st′ after told next same e w is = absurd (let result = w .result in let z : _≡_ {A = ℕ} 0 1 = cc in omega arith)
+
+-- the loop over the days before day k: the stores and the lent arrays are as long as they were, and the run is underway
+pub record Running (n count : ℕ) (s : Setup) (st₀ : State) (ds : List Day) (before now : List ℕ) (st : State) (i o e r j : List ℕ) (at done k : ℕ) : Type 0 where
+  pub within : k ≤ count
+  pub soils : length (st .soil) ≡ length (st₀ .soil)
+  pub snows : length (st .snow) ≡ length (st₀ .snow)
+  pub room : Room n i o e r j
+  pub underway : Underway s st₀ (noResults n) ds before now st (parts n i o e r j) at done k

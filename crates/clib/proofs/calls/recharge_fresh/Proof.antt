@@ -43,16 +43,16 @@ returned-as-requires : tie.Need-returned-as-requires
 returned-as-requires c κs = fresh-near _ _ _ (c .before .before .before .before .before .before .before .before .before .before .before .before .before .before .fresh .ensures)
 
 same-length : tie.Need-same-length
-same-length c = search needs
+same-length c = c .before .before .before .before .before .before .before .before .before .before .before .before .before .before .soil .given
 
 same-length-2 : tie.Need-same-length-2
-same-length-2 c = search needs
+same-length-2 c = c .before .before .before .before .before .before .before .before .before .before .before .before .snow .given
 
 same-length-3 : tie.Need-same-length-3
-same-length-3 c = search needs
+same-length-3 c = c .before .before .before .before .before .before .memory .given
 
 same-length-4 : tie.Need-same-length-4
-same-length-4 c = search needs
+same-length-4 c = c .before .before .last-serial .given
 
 returns-3 : tie.Need-returns-3
 returns-3 c = fresh-handed (the-setup (start c)) (the-stores (start c))

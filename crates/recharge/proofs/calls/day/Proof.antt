@@ -1,11 +1,13 @@
 -- `calls::day` meets its contract: refused, it hands back what it was given; accepted, the pass downhill is handed what the tests left.
-use mathlib.Core.List.{[], _∷_}
+use mathlib.Core.List.{List, [], _∷_}
 use mathlib.Core.Path.{_≡_, sym, ap, _∙_}
+use Prim.Native.Nat.{ℕ}
+use lib.ListN.{replicate}
 use types.Run.{miss}
 use borrow.Author.Needs.{needs}
 use Rattle.paper.specs.Setup.{Setup}
 use Rattle.paper.specs.State.{State}
-use Rattle.paper.specs.CellDay.{today}
+use Rattle.paper.specs.CellDay.{Today, today}
 use Rattle.paper.specs.Refusals.{accepted}
 use Rattle.paper.specs.Day.{Results, verdictOf, lengthsOf}
 use Rattle.paper.proofs.DayLaws.{SoundDay, sound-day}
@@ -16,6 +18,7 @@ use Rattle.records.specs.Answers.{resultsAs}
 use Rattle.records.proofs.VerdictLaws.{accepted-back}
 use Rattle.weather.specs.Today.{todayAs}
 use Rattle.weather.proofs.TodayLaws.{today-fits}
+use Rattle.recharge.specs.Downhill.{Slices, slicesOf}
 use Rattle.recharge.proofs.AnswerLaws.{ready, accepted-answer, refused-answer}
 use Rattle.recharge.proofs.calls.day.Statement.{statement}
 use Rattle.recharge.proofs.calls.day.Tie as tie
@@ -36,6 +39,31 @@ abbrev results : tie.Start → Results
 results c =
     resultsAs (c .args .intercepted .now) (c .args .outflow .now) (c .args .evapotranspired .now) (c .args .recharged .now) (c .args .rejected .now)
 
+-- what the tests left: the day's weather, and the four arrays, which were zeros before
+abbrev weathered : tie.After-admit → Today
+weathered c = todayAs (c .admit .result .today)
+
+abbrev none : List ℕ
+none = replicate 4096 0
+
+abbrev slots : tie.After-admit → List ℕ
+slots c = c .admit .last .1 .1 .1 .1 .1 .1 .1 .1 .1 .1 .1 .1 .0
+
+abbrev ways : tie.After-admit → List ℕ
+ways c = c .admit .last .1 .1 .1 .1 .1 .1 .1 .1 .1 .1 .1 .1 .1 .0
+
+abbrev order : tie.After-admit → List ℕ
+order c = c .admit .last .1 .1 .1 .1 .1 .1 .1 .1 .1 .1 .1 .1 .1 .1 .0
+
+abbrev plots : tie.After-admit → List ℕ
+plots c = c .admit .last .1 .1 .1 .1 .1 .1 .1 .1 .1 .1 .1 .1 .1 .1 .1 .0
+
+-- and what the pass downhill left
+abbrev slices : tie.After-downhill → Slices
+slices c =
+    let new = c .downhill .last .1 .1 .1 .1 .1 .1 in
+    slicesOf (new .0) (new .1 .0) (new .1 .1 .0) (new .1 .1 .1 .0) (new .1 .1 .1 .1 .0) (new .1 .1 .1 .1 .1 .0) (new .1 .1 .1 .1 .1 .1 .0)
+
 returns : tie.Need-returns
 unfolding verdictOf lengthsOf
 returns c =
@@ -55,7 +83,7 @@ sound c = let s = start (c .before .before) in sound-day (setup s) (state s) (re
 
 weather : (c : tie.After-enum-told) → let s = start (c .before .before) in
     todayAs (c .before .before .admit .result .today) ≡ today (setup s .season) (state s .past) (dayAs (s .args .day))
-weather c = let ok = sound c in c .before .before .admit .ensures .weather ∙ today-fits _ _ _ (ok .day) (ok .memory)
+weather c = let ok = sound c in let s = start (c .before .before) in c .before .before .admit .ensures .weather ∙ today-fits (setup s .season) (state s .past) (dayAs (s .args .day)) (ok .day) (ok .memory)
 
 downhill-requires : tie.Need-downhill-requires
 unfolding verdictOf lengthsOf
@@ -64,7 +92,8 @@ downhill-requires c κs =
     let tested = told .before .before in
     let s = start tested in
     let p = passed told in
-    ready (setup s) (state s) (results s) (dayAs (s .args .day)) _ _ _ _ _ _ _ _ (sound told) (tested .admit .ensures .mapped p) (weather told)
+    ready (setup s) (state s) (results s) (dayAs (s .args .day)) none none (slots tested) (ways tested) (order tested) (weathered tested) (replicate 1536 0)
+    (plots tested) (sound told) (tested .admit .ensures .mapped p) (weather told)
     (tested .admit .ensures .plotted p)
 
 returns-2 : tie.Need-returns-2
@@ -76,8 +105,10 @@ returns-2 c =
     let tested = told .before .before in
     let s = start tested in
     let p = passed told in
-    accepted-answer (setup s) (state s) (results s) (dayAs (s .args .day)) _ _ _ _ _ _ _ _ (sound told) (tested .admit .ensures .mapped p) (weather told)
-    (tested .admit .ensures .plotted p) p _ (c .accepted .ensures .0) _ (ap pastAs (c .accepted .ensures .2) ∙ after .after .ensures) _ _ (c .accepted .ensures .1) _ (ran .downhill .ensures)
+    accepted-answer (setup s) (state s) (results s) (dayAs (s .args .day)) none none (slots tested) (ways tested) (order tested) (weathered tested) (replicate 1536 0)
+    (plots tested) (sound told) (tested .admit .ensures .mapped p) (weather told)
+    (tested .admit .ensures .plotted p) p _ (c .accepted .ensures .0) _ (ap pastAs (c .accepted .ensures .2) ∙ after .after .ensures) _ _ (c .accepted .ensures .1) (slices ran)
+    (ran .downhill .ensures)
 
 same-length-3 : tie.Need-same-length-3
 same-length-3 c = c .before .before .before .before .before .before .before .before .before .before .before .before .before .before .before .soil .given

@@ -2,8 +2,10 @@
 use borrow.Author.Needs.{needs}
 use Rattle.text.proofs.starting.begun.Statement.{statement}
 use Rattle.text.proofs.starting.begun.Tie as tie
-use mathlib.Core.Path.{ap}
+use mathlib.Core.Path.{ap, _∙_}
 use native.Mathlib.Omega.{arith}
+use Rattle.paper.specs.State.{State}
+use Rattle.records.specs.Past.{stateAs}
 use Rattle.records.specs.Verdicts.{verdictAs}
 use Rattle.text.proofs.PrintedLaws.{whole-text}
 use Rattle.text.proofs.StartLaws.{five, days-ready, start-refused, start-runs}
@@ -17,6 +19,10 @@ season fresh = fresh .before .before .before
 
 abbrev start : tie.After-season-in → tie.Start
 start season = season .before .before .before .before .before .before .before .before .before .before .before
+
+-- the state that the fresh state left in the stores
+abbrev left : tie.After-fresh → State
+left f = stateAs (f .fresh .last .1 .1 .1 .1 .1 .1 .1 .0) (f .fresh .last .1 .1 .1 .1 .1 .1 .1 .1 .0) (f .fresh .result .past)
 
 grid-in-requires : tie.Need-grid-in-requires
 grid-in-requires c κs = five _ (c .before .before .before .before .before .before .before .before .before .pre .1 .numbers)
@@ -37,7 +43,7 @@ returns c = let refusal = c .before .before in
     let at = season (fresh lent) in
     let p = start at .pre in
     whole-text
-    (start-refused _ _ _ _ _ _ _ _ (p .0) (p .1) _ _ (at .before .grid-in .ensures) (at .season-in .ensures) _ _ _
+    (start-refused _ _ _ _ _ _ _ _ (p .0) (p .1) _ _ (at .before .grid-in .ensures) (at .season-in .ensures) (left (fresh lent)) (verdictAs (fresh lent .fresh .result .verdict)) _
     (fresh lent .fresh .ensures) (ap verdictAs (told .verdict .given .1)))
     (omega arith)
     (refusal .refusal .ensures)
@@ -49,7 +55,7 @@ returns-2 c = let days = c .before .before .before .before .before .before in
     let at = season (fresh lent) in
     let p = start at .pre in
     whole-text
-    (start-runs _ _ _ _ _ _ _ _ (p .0) (p .1) _ _ (at .before .grid-in .ensures) (at .season-in .ensures) _ _
+    (start-runs _ _ _ _ _ _ _ _ (p .0) (p .1) _ _ (at .before .grid-in .ensures) (at .season-in .ensures) (left (fresh lent)) (verdictAs (fresh lent .fresh .result .verdict))
     (fresh lent .fresh .ensures) (ap verdictAs (told .enum-told .given .1)))
     (omega arith)
     (days .days .ensures)
@@ -73,22 +79,22 @@ enum-told : tie.Need-enum-told
 enum-told c = search needs
 
 same-length : tie.Need-same-length
-same-length c = search needs
+same-length c = c .before .before .before .before .before .before .before .before .before .before .soil .given
 
 same-length-2 : tie.Need-same-length-2
-same-length-2 c = search needs
+same-length-2 c = c .before .before .before .before .before .before .before .before .snow .given
 
 same-length-3 : tie.Need-same-length-3
-same-length-3 c = search needs
+same-length-3 c = c .before .output .given
 
 same-length-4 : tie.Need-same-length-4
-same-length-4 c = search needs
+same-length-4 c = c .before .before .before .before .before .soil2 .given ∙ c .before .before .before .before .before .before .before .before .before .before .before .before .before .before .before .before .soil .given
 
 same-length-5 : tie.Need-same-length-5
-same-length-5 c = search needs
+same-length-5 c = c .before .before .before .snow2 .given ∙ c .before .before .before .before .before .before .before .before .before .before .before .before .before .before .snow .given
 
 same-length-6 : tie.Need-same-length-6
-same-length-6 c = search needs
+same-length-6 c = c .before .output2 .given
 
 pub begun-spec : {M : Type 1} → statement M
 begun-spec =
