@@ -1,15 +1,13 @@
 // The cover table: its test, its index by code, and what it says of a slot, which is one cover with one soil group.
+mod grounds;
 mod plots;
 mod slots;
 mod table;
 
-pub use plots::CURVE_NUMBER;
-pub use plots::INTERCEPTED;
-pub use plots::LARGEST_RECHARGE;
+pub use grounds::Plot;
+pub use grounds::plot_at;
 pub use plots::PLOT_NUMBERS;
 pub use plots::PLOT_ROOM;
-pub use plots::RAIN;
-pub use plots::ROOT_DEPTH;
 pub use plots::SNOWFALL;
 pub use plots::lay_plots;
 pub use slots::MOST_SLOTS;

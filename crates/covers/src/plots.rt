@@ -26,17 +26,17 @@ use weather::Today;
 use weather::curve_number;
 
 // The places of a slot's numbers.
-pub const INTERCEPTED: usize = 0;
+pub(crate) const INTERCEPTED: usize = 0;
 
-pub const RAIN: usize = 1;
+pub(crate) const RAIN: usize = 1;
 
 pub const SNOWFALL: usize = 2;
 
-pub const CURVE_NUMBER: usize = 3;
+pub(crate) const CURVE_NUMBER: usize = 3;
 
-pub const ROOT_DEPTH: usize = 4;
+pub(crate) const ROOT_DEPTH: usize = 4;
 
-pub const LARGEST_RECHARGE: usize = 5;
+pub(crate) const LARGEST_RECHARGE: usize = 5;
 
 pub const PLOT_NUMBERS: usize = 6;
 

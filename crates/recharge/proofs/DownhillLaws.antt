@@ -38,21 +38,20 @@ module _
     {f plots slots available soil snow arrived : List ℕ}
     {i : ℕ}
     (lent : LentAt t f plots slots available soil snow arrived i)
-    (slot s n a : ℕ)
+    (s n a : ℕ)
     (p : Plot)
-    (is-slot : slot ≡ getD slots i 0)
-    (is-plot : p ≡ plotBy plots slot (getD available i 0))
+    (is-plot : p ≡ plotBy plots (getD slots i 0) (getD available i 0))
     (is-soil : s ≡ getD soil i 0)
     (is-snow : n ≡ getD snow i 0)
     (is-arrived : a ≡ getD arrived i 0)
   where
     pub lent-ready : CellReady t p s n a f
     unfolding plotOfCell
-    lent-ready = rw (is-plot, is-slot, is-soil, is-snow, is-arrived) (lent .ready)
+    lent-ready = rw (is-plot, is-soil, is-snow, is-arrived) (lent .ready)
 
     pub lent-day : (way : ℕ) (r : Figures) → r ≡ figuresBy t p way s n a → r ≡ dayAt t plots slots available soil snow arrived way i
     unfolding dayAt plotOfCell
-    lent-day way r e = e ∙ rw (is-plot, is-slot, is-soil, is-snow, is-arrived)
+    lent-day way r e = e ∙ rw (is-plot, is-soil, is-snow, is-arrived)
 
 -- what a pass that is ready knows of each cell
 module _ {t : Today} {plots slots ways order available : List ℕ} {s₀ : Slices} (ready : Ready t plots slots ways order available s₀) where

@@ -6,13 +6,12 @@ ghost use Rattle.recharge.specs.CellDay.{figuresAs};
 ghost use Rattle.recharge.specs.Downhill.{slicesOf, LentAt, dayAt, Ready, Ran};
 use crate::cell_day::Figures;
 use crate::cell_day::cell_day;
-use crate::plots::plot_at;
 use crate::totals::add_cell;
 use crate::ways::Way;
 use crate::ways::gone_from;
 use crate::ways::hand_on;
 use covers::PLOT_ROOM;
-use covers::small_index;
+use covers::plot_at;
 use records::MOST_CELLS;
 use records::Totals;
 use records::depth;
@@ -38,7 +37,7 @@ fn day_at(
     ensures { λ r. ⌜ figuresAs r ≡ dayAt (todayAs today) (now (plots .entry)) (now (slots .entry)) (now (available .entry)) (now (soil .entry)) (now (snow .entry))
         (now (arrived .entry)) (way .0) cell ⌝ }
 {
-    let plot = plot_at(plots, small_index(slots[cell]), available[cell]);
+    let plot = plot_at(plots, slots[cell], available[cell]);
     cell_day(
         f,
         today,

@@ -4,7 +4,6 @@ mod cell_day;
 mod downhill;
 mod loss;
 mod outflow;
-mod plots;
 mod soil;
 mod totals;
 mod ways;

@@ -4,7 +4,7 @@ use Prim.Native.Nat.{_+_, _-_, _<_}
 use native.Mathlib.Omega.{arith}
 use Rattle.weather.specs.Today.{todayAs}
 use Rattle.recharge.specs.Depths.{gatheredLimit}
-use Rattle.recharge.specs.Plots.{plotAs}
+use Rattle.covers.specs.Grounds.{plotAs}
 use Rattle.recharge.specs.Soil.{soilDayAs}
 use Rattle.recharge.specs.CellDay.{ownBy, Fit32}
 use Rattle.recharge.proofs.FigureLaws.{stepped, steps-are, steps-fit}

@@ -1,4 +1,5 @@
 -- `totals::add_cell` meets its contract: each total takes its figure of the cell, with room for it in 64 bits.
+use Prim.Native.Nat.{_+_}
 use Rattle.recharge.specs.Totals.{withCell}
 use borrow.Author.Needs.{needs}
 use Rattle.recharge.proofs.totals.add_cell.Statement.{statement}
@@ -6,7 +7,17 @@ use Rattle.recharge.proofs.totals.add_cell.Tie as tie
 
 returns : tie.Need-returns
 unfolding withCell
-returns c = cc
+returns c =
+    let start = c .before .before .before .before .before .before .before .before .before .before in
+    λ k. record {
+      gross = start .args .totals .gross .0 + start .args .gross .0;
+      intercepted = c .before .before .before .before .more .ensures k;
+      evapotranspired = c .before .before .before .more2 .ensures k;
+      recharged = c .before .before .more3 .ensures k;
+      rejected = c .before .more4 .ensures k;
+      gone = c .more5 .ensures k;
+      stored = start .args .totals .stored .0 + (start .args .day .soil + start .args .day .snow);
+    }
 
 pub add-cell-spec : {M : Type 1} → statement M
 add-cell-spec =

@@ -1,10 +1,10 @@
--- `plots::capacity` meets its contract: two numbers of 32 bits have a product of 64.
+-- `grounds::capacity` meets its contract: two numbers of 32 bits have a product of 64.
 use Prim.Native.Nat.{_≤_}
 use native.Mathlib.Nat.{mul-le-mul}
 use native.Mathlib.Omega.{arith}
 use borrow.Author.Needs.{needs}
-use Rattle.recharge.proofs.plots.capacity.Statement.{statement}
-use Rattle.recharge.proofs.plots.capacity.Tie as tie
+use Rattle.covers.proofs.grounds.capacity.Statement.{statement}
+use Rattle.covers.proofs.grounds.capacity.Tie as tie
 
 mul-t5 : tie.Need-mul-t5
 mul-t5 c =

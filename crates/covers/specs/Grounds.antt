@@ -1,6 +1,6 @@
 -- The code's plot of a cell as the numbers that the rules read.
 use Rattle.covers.specs.Plots.{Plot}
-use Rattle.recharge.specs.declared.plots.Plot as code
+use Rattle.covers.specs.declared.grounds.Plot as code
 
 abbrev pub plotAs : code.Plot → Plot
 plotAs p =
