@@ -1,15 +1,16 @@
--- The ten tests of a day as the code asks them, and what they leave where all pass.
+-- The ten tests of a day as the code asks them, and what they leave.
 use mathlib.Core.Path.{_≡_}
 use mathlib.Core.List.{List, [], _∷_, _++_}
 use Prim.Native.Nat.{ℕ}
 use Rattle.paper.specs.Setup.{Setup, Grid}
 use Rattle.paper.specs.State.{Past, State, Day, dayFits, follows}
-use Rattle.paper.specs.Refusals.{Test, dayRecord, serialGap, single, verdict, accepted, setupLengths, setupTests, dayTests}
+use Rattle.paper.specs.Refusals.{Refusal, Test, dayRecord, serialGap, single, verdict, accepted, refused, setupLengths, setupTests, dayTests}
+use Rattle.paper.specs.Day.{checkOf}
 use Rattle.records.specs.Verdicts.{verdictIn}
 use Rattle.weather.specs.Today.{todayAs, weatherOf}
 use Rattle.covers.specs.Plots.{plotsOf}
-use Rattle.survey.specs.Charts.{Mapped}
-use Rattle.stores.specs.States.{stateTests}
+use Rattle.survey.specs.Charts.{Surveyed}
+use Rattle.stores.specs.States.{lentTests, stateTests}
 use Rattle.stores.specs.Snowfall.{snowTests}
 use Rattle.admission.specs.declared.tests.Lengths.{Lengths}
 use Rattle.admission.specs.declared.tests.Tested.{Tested}
@@ -30,9 +31,28 @@ laterTests g covers slots available soil snow past d plots =
 abbrev pub allTests : Setup → List ℕ → State → Day → List Test
 allTests s more st d = setupTests s (setupLengths s ++ more) ++ dayTests s st d
 
--- the verdict of all ten, and the day's weather; and where they pass, the arrays of the setup, and what the cells of each slot share
-pub record AllTested (s : Setup) (more : List ℕ) (st : State) (d : Day) (slots₀ ways₀ plots₀ : List ℕ) (r : Tested) (slots ways order plots : List ℕ) : Type 0 where
+-- the arrays of a setup that passed and of its day
+pub record Arrays : Type 0 where
+  pub slots : List ℕ
+  pub ways : List ℕ
+  pub order : List ℕ
+  pub plots : List ℕ
+
+abbrev pub arraysOf : List ℕ → List ℕ → List ℕ → List ℕ → Arrays
+arraysOf slots ways order plots = record { slots = slots; ways = ways; order = order; plots = plots }
+
+-- the verdict of all ten, the day's weather, and what the tests leave in the arrays
+pub record AllTested (s : Setup) (more : List ℕ) (st : State) (d : Day) (before : Arrays) (r : Tested) (after : Arrays) : Type 0 where
   pub verdict-is : r .verdict ≡ verdictIn (verdict (allTests s more st d))
-  pub mapped : verdict (allTests s more st d) ≡ accepted → Mapped s slots₀ ways₀ slots ways order
   pub weather : todayAs (r .today) ≡ weatherOf (s .season) (st .past) d
-  pub plotted : verdict (allTests s more st d) ≡ accepted → plots ≡ plotsOf (todayAs (r .today)) (s .covers) plots₀
+  -- where tests 1 and 2 of the stores and results refuse, all are as they were lent
+  pub untouched : (why : Refusal) → verdict (lentTests (s .grid) more) ≡ refused why → after ≡ before
+  -- else the setup's are as the survey leaves them
+  pub surveyed :
+      verdict (lentTests (s .grid) more) ≡ accepted
+      → Surveyed s (before .slots) (before .ways) (verdictIn (checkOf s)) (after .slots) (after .ways) (after .order)
+  -- and what the cells of each slot share is laid out where the survey passes
+  pub unlaid : (why : Refusal) → checkOf s ≡ refused why → after .plots ≡ before .plots
+  pub laid :
+      verdict (lentTests (s .grid) more) ≡ accepted → checkOf s ≡ accepted
+      → after .plots ≡ plotsOf (todayAs (r .today)) (s .covers) (before .plots)

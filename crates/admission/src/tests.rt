@@ -9,7 +9,7 @@ ghost use Rattle.records.specs.Verdicts.{verdictIn};
 ghost use Rattle.weather.specs.Today.{todayAs};
 ghost use Rattle.covers.specs.Plots.{plotsOf};
 ghost use Rattle.stores.specs.States.{lentTests};
-ghost use Rattle.admission.specs.Tests.{dayLengths, laterTests, AllTested};
+ghost use Rattle.admission.specs.Tests.{dayLengths, laterTests, arraysOf, AllTested};
 use covers::PLOT_ROOM;
 use covers::lay_plots;
 use records::DayRecord;
@@ -98,7 +98,7 @@ fn day_tests(
     snow_verdict(plots, slots, snow)
 }
 
-// Tests 1 to 10, which leave the arrays of the setup and of the day where they all pass.
+// Tests 1 to 10. Where they all pass, the arrays are those of the setup and of the day.
 pub fn admit(
     grid: Grid,
     season: Season,
@@ -119,7 +119,8 @@ pub fn admit(
 ) -> Tested
     ensures { λ r. ⌜ AllTested (setupAs grid season (now (covers .entry)) (now (direction .entry)) (now (cover .entry)) (now (group .entry)) (now (available .entry)))
         (dayLengths (length (now (soil .entry))) (length (now (snow .entry))) results) (stateAs (now (soil .entry)) (now (snow .entry)) past) (dayAs day)
-        (now (slots .entry)) (now (ways .entry)) (now (plots .entry)) r (now (slots .exit)) (now (ways .exit)) (now (order .exit)) (now (plots .exit)) ⌝ }
+        (arraysOf (now (slots .entry)) (now (ways .entry)) (now (order .entry)) (now (plots .entry))) r
+        (arraysOf (now (slots .exit)) (now (ways .exit)) (now (order .exit)) (now (plots .exit))) ⌝ }
 {
     let today = today_of(season, past, day);
     let lent = lent_fit(grid, soil.len(), snow.len(), results);

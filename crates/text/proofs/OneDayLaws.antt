@@ -59,21 +59,21 @@ module _ (n : ℕ) where
   long : (l part : List ℕ) → n ≤ length l → length part ≡ length (take n l) → n ≤ length (after l part)
   long l part h k = rw (length-front l part n k) h
 
-  module _ (i o e r j i′ o′ e′ r′ j′ : List ℕ) (h : Room n i o e r j) (a : length i′ ≡ length (take n i)) (b : length o′ ≡ length (take n o))
-      (c : length e′ ≡ length (take n e)) (d : length r′ ≡ length (take n r)) (f : length j′ ≡ length (take n j)) where
-    pub room-left : Room n (after i i′) (after o o′) (after e e′) (after r r′) (after j j′)
-    room-left =
-        record {
-          intercepted = long i i′ (h .intercepted) a;
-          outflow = long o o′ (h .outflow) b;
-          evapotranspired = long e e′ (h .evapotranspired) c;
-          recharged = long r r′ (h .recharged) d;
-          rejected = long j j′ (h .rejected) f;
-        }
-
-    pub parts-left : parts n (after i i′) (after o o′) (after e e′) (after r r′) (after j j′) ≡ resultsAs i′ o′ e′ r′ j′
-    parts-left =
-        rw (front i i′ (h .intercepted) a, front o o′ (h .outflow) b, front e e′ (h .evapotranspired) c, front r r′ (h .recharged) d, front j j′ (h .rejected) f) refl
+  pub left :
+      (i o e r j i′ o′ e′ r′ j′ : List ℕ) → Room n i o e r j → length i′ ≡ length (take n i) → length o′ ≡ length (take n o)
+      → length e′ ≡ length (take n e) → length r′ ≡ length (take n r) → length j′ ≡ length (take n j)
+      → Room n (after i i′) (after o o′) (after e e′) (after r r′) (after j j′)
+      × (parts n (after i i′) (after o o′) (after e e′) (after r r′) (after j j′) ≡ resultsAs i′ o′ e′ r′ j′)
+  left i o e r j i′ o′ e′ r′ j′ h a b c d f = (
+    record {
+      intercepted = long i i′ (h .intercepted) a;
+      outflow = long o o′ (h .outflow) b;
+      evapotranspired = long e e′ (h .evapotranspired) c;
+      recharged = long r r′ (h .recharged) d;
+      rejected = long j j′ (h .rejected) f;
+    },
+    rw (front i i′ (h .intercepted) a, front o o′ (h .outflow) b, front e e′ (h .evapotranspired) c, front r r′ (h .recharged) d, front j j′ (h .rejected) f) refl,
+  )
 
 -- a day's fields from its first number on, the temperatures as a record keeps them
 module _ (ns : List ℕ) (coded : Coded ns) (from k : ℕ) (start : from ≡ daysFrom ns) where

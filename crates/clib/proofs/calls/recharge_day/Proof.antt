@@ -92,35 +92,66 @@ write-totals-requires c κs = tested (from-totals c) .if3 .left
 returned-as-requires : tie.Need-returned-as-requires
 returned-as-requires c κs = day-placed _ _ _ _ (c .before .before .before .before .before .before .before .before .before .before .before .before .before .before .before .before .before .before .before .before .before .before .before .before .before .before .before .before .before .day .ensures)
 
+-- from the end back to each slice that a call gave back
+abbrev totals : tie.After-returned-as → tie.After-totals
+totals c = c .before .before
+
+abbrev last-serial : tie.After-returned-as → tie.After-last-serial
+last-serial c = totals c .before .before .before .before
+
+abbrev memory : tie.After-returned-as → tie.After-memory
+memory c = last-serial c .before .before .before .before
+
+abbrev rejected : tie.After-returned-as → tie.After-rejected
+rejected c = memory c .before .before .before .before .before .before .before
+
+abbrev recharged : tie.After-returned-as → tie.After-recharged
+recharged c = rejected c .before .before
+
+abbrev evapotranspired : tie.After-returned-as → tie.After-evapotranspired
+evapotranspired c = recharged c .before .before
+
+abbrev outflow : tie.After-returned-as → tie.After-outflow
+outflow c = evapotranspired c .before .before
+
+abbrev intercepted : tie.After-returned-as → tie.After-intercepted
+intercepted c = outflow c .before .before
+
+abbrev snow : tie.After-returned-as → tie.After-snow
+snow c = intercepted c .before .before
+
+abbrev soil : tie.After-returned-as → tie.After-soil
+soil c = snow c .before .before
+
 same-length : tie.Need-same-length
-same-length c = c .before .before .before .before .before .before .before .before .before .before .before .before .before .before .before .before .before .before .before .before .before .before .before .before .before .before .before .before .before .soil .given
+same-length c = soil c .soil .given
 
 same-length-2 : tie.Need-same-length-2
-same-length-2 c = c .before .before .before .before .before .before .before .before .before .before .before .before .before .before .before .before .before .before .before .before .before .before .before .before .before .before .before .snow .given
+same-length-2 c = snow c .snow .given
 
 same-length-3 : tie.Need-same-length-3
-same-length-3 c = c .before .before .before .before .before .before .before .before .before .before .memory .given
+same-length-3 c = memory c .memory .given
 
 same-length-4 : tie.Need-same-length-4
-same-length-4 c = c .before .before .before .before .before .before .last-serial .given
+same-length-4 c = last-serial c .last-serial .given
 
 same-length-5 : tie.Need-same-length-5
-same-length-5 c = c .before .before .before .before .before .before .before .before .before .before .before .before .before .before .before .before .before .before .before .before .before .before .before .before .before .intercepted .given
+same-length-5 c = intercepted c .intercepted .given
 
 same-length-6 : tie.Need-same-length-6
-same-length-6 c = c .before .before .before .before .before .before .before .before .before .before .before .before .before .before .before .before .before .before .before .before .before .before .before .outflow .given
+same-length-6 c = outflow c .outflow .given
 
 same-length-7 : tie.Need-same-length-7
-same-length-7 c = c .before .before .before .before .before .before .before .before .before .before .before .before .before .before .before .before .before .before .before .before .before .evapotranspired .given
+same-length-7 c = evapotranspired c .evapotranspired .given
 
 same-length-8 : tie.Need-same-length-8
-same-length-8 c = c .before .before .before .before .before .before .before .before .before .before .before .before .before .before .before .before .before .before .before .recharged .given
+same-length-8 c = recharged c .recharged .given
 
 same-length-9 : tie.Need-same-length-9
-same-length-9 c = c .before .before .before .before .before .before .before .before .before .before .before .before .before .before .before .before .before .rejected .given
+same-length-9 c = rejected c .rejected .given
 
 same-length-10 : tie.Need-same-length-10
-same-length-10 c = c .before .before .totals .given
+same-length-10 c = totals c .totals .given
 
 returns-4 : tie.Need-returns-4
 returns-4 c = day-handed (the-setup (start (from-end c))) (the-stores (start (from-end c))) (the-results (start (from-end c)))

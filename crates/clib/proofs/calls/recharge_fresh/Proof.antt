@@ -42,17 +42,30 @@ keep-last-requires c κs = search needs
 returned-as-requires : tie.Need-returned-as-requires
 returned-as-requires c κs = fresh-near _ _ _ (c .before .before .before .before .before .before .before .before .before .before .before .before .before .before .fresh .ensures)
 
+-- from the end back to each slice that a call gave back
+abbrev last-serial : tie.After-returned-as → tie.After-last-serial
+last-serial c = c .before .before
+
+abbrev memory : tie.After-returned-as → tie.After-memory
+memory c = last-serial c .before .before .before .before
+
+abbrev snow : tie.After-returned-as → tie.After-snow
+snow c = memory c .before .before .before .before .before .before
+
+abbrev soil : tie.After-returned-as → tie.After-soil
+soil c = snow c .before .before
+
 same-length : tie.Need-same-length
-same-length c = c .before .before .before .before .before .before .before .before .before .before .before .before .before .before .soil .given
+same-length c = soil c .soil .given
 
 same-length-2 : tie.Need-same-length-2
-same-length-2 c = c .before .before .before .before .before .before .before .before .before .before .before .before .snow .given
+same-length-2 c = snow c .snow .given
 
 same-length-3 : tie.Need-same-length-3
-same-length-3 c = c .before .before .before .before .before .before .memory .given
+same-length-3 c = memory c .memory .given
 
 same-length-4 : tie.Need-same-length-4
-same-length-4 c = c .before .before .last-serial .given
+same-length-4 c = last-serial c .last-serial .given
 
 returns-3 : tie.Need-returns-3
 returns-3 c = fresh-handed (the-setup (start c)) (the-stores (start c))

@@ -18,6 +18,10 @@ use Rattle.records.specs.Answers.{resultsAs}
 use Rattle.records.proofs.VerdictLaws.{accepted-back}
 use Rattle.weather.specs.Today.{todayAs}
 use Rattle.weather.proofs.TodayLaws.{today-fits}
+use Rattle.covers.specs.Plots.{plotsOf}
+use Rattle.survey.specs.Charts.{Mapped}
+use Rattle.admission.specs.Tests.{arraysOf}
+use Rattle.admission.proofs.TestLaws.{admitted}
 use Rattle.recharge.specs.Downhill.{Slices, slicesOf}
 use Rattle.recharge.proofs.AnswerLaws.{ready, accepted-answer, refused-answer}
 use Rattle.recharge.proofs.calls.day.Statement.{statement}
@@ -85,51 +89,76 @@ weather : (c : tie.After-enum-told) → let s = start (c .before .before) in
     todayAs (c .before .before .admit .result .today) ≡ today (setup s .season) (state s .past) (dayAs (s .args .day))
 weather c = let ok = sound c in let s = start (c .before .before) in c .before .before .admit .ensures .weather ∙ today-fits (setup s .season) (state s .past) (dayAs (s .args .day)) (ok .day) (ok .memory)
 
-downhill-requires : tie.Need-downhill-requires
+-- and the arrays are those of its setup, with the plots of the day
+mapped : (c : tie.After-enum-told) → let t = c .before .before in
+    Mapped (setup (start t)) none none (slots t) (ways t) (order t) × (plots t ≡ plotsOf (weathered t) (setup (start t) .covers) (replicate 1536 0))
 unfolding verdictOf lengthsOf
+mapped c =
+    let t = c .before .before in
+    admitted (setup (start t)) _ (state (start t)) (dayAs (start t .args .day)) _ (t .admit .result) (arraysOf (slots t) (ways t) (order t) (plots t)) (t .admit .ensures) (passed c)
+
+downhill-requires : tie.Need-downhill-requires
 downhill-requires c κs =
     let told = c .before .before .before .before .before .before .before .before .before .before .before in
     let tested = told .before .before in
     let s = start tested in
-    let p = passed told in
     ready (setup s) (state s) (results s) (dayAs (s .args .day)) none none (slots tested) (ways tested) (order tested) (weathered tested) (replicate 1536 0)
-    (plots tested) (sound told) (tested .admit .ensures .mapped p) (weather told)
-    (tested .admit .ensures .plotted p)
+    (plots tested) (sound told) (mapped told .0) (weather told) (mapped told .1)
+
+-- from the answer back to each slice that the pass downhill gave back, and to the pass
+abbrev rejected : tie.After-accepted → tie.After-rejected
+rejected c = c .before .before .before
+
+abbrev recharged : tie.After-accepted → tie.After-recharged
+recharged c = rejected c .before .before
+
+abbrev evapotranspired : tie.After-accepted → tie.After-evapotranspired
+evapotranspired c = recharged c .before .before
+
+abbrev outflow : tie.After-accepted → tie.After-outflow
+outflow c = evapotranspired c .before .before
+
+abbrev intercepted : tie.After-accepted → tie.After-intercepted
+intercepted c = outflow c .before .before
+
+abbrev snow : tie.After-accepted → tie.After-snow
+snow c = intercepted c .before .before
+
+abbrev soil : tie.After-accepted → tie.After-soil
+soil c = snow c .before .before
+
+abbrev ran : tie.After-accepted → tie.After-downhill
+ran c = soil c .before
 
 returns-2 : tie.Need-returns-2
-unfolding verdictOf lengthsOf
 returns-2 c =
-    let after = c .before in
-    let ran = after .before .before .before .before .before .before .before .before .before .before .before .before .before .before .before in
-    let told = ran .before .before .before .before .before .before .before .before .before .before .before .before in
+    let told = ran c .before .before .before .before .before .before .before .before .before .before .before .before in
     let tested = told .before .before in
     let s = start tested in
-    let p = passed told in
     accepted-answer (setup s) (state s) (results s) (dayAs (s .args .day)) none none (slots tested) (ways tested) (order tested) (weathered tested) (replicate 1536 0)
-    (plots tested) (sound told) (tested .admit .ensures .mapped p) (weather told)
-    (tested .admit .ensures .plotted p) p _ (c .accepted .ensures .0) _ (ap pastAs (c .accepted .ensures .2) ∙ after .after .ensures) _ _ (c .accepted .ensures .1) (slices ran)
-    (ran .downhill .ensures)
+    (plots tested) (sound told) (mapped told .0) (weather told) (mapped told .1) (passed told) _ (c .accepted .ensures .0) _ (ap pastAs (c .accepted .ensures .2) ∙ c .before .after .ensures) _ _ (c .accepted .ensures .1) (slices (ran c))
+    (ran c .downhill .ensures)
 
 same-length-3 : tie.Need-same-length-3
-same-length-3 c = c .before .before .before .before .before .before .before .before .before .before .before .before .before .before .before .soil .given
+same-length-3 c = soil c .soil .given
 
 same-length-4 : tie.Need-same-length-4
-same-length-4 c = c .before .before .before .before .before .before .before .before .before .before .before .before .before .snow .given
+same-length-4 c = snow c .snow .given
 
 same-length-5 : tie.Need-same-length-5
-same-length-5 c = c .before .before .before .before .before .before .before .before .before .before .before .intercepted .given
+same-length-5 c = intercepted c .intercepted .given
 
 same-length-6 : tie.Need-same-length-6
-same-length-6 c = c .before .before .before .before .before .before .before .before .before .outflow .given
+same-length-6 c = outflow c .outflow .given
 
 same-length-7 : tie.Need-same-length-7
-same-length-7 c = c .before .before .before .before .before .before .before .evapotranspired .given
+same-length-7 c = evapotranspired c .evapotranspired .given
 
 same-length-8 : tie.Need-same-length-8
-same-length-8 c = c .before .before .before .before .before .recharged .given
+same-length-8 c = recharged c .recharged .given
 
 same-length-9 : tie.Need-same-length-9
-same-length-9 c = c .before .before .before .rejected .given
+same-length-9 c = rejected c .rejected .given
 
 pub day-spec : {M : Type 1} → statement M
 day-spec =

@@ -19,9 +19,10 @@ use Rattle.records.specs.Days.{dayAs}
 use Rattle.records.specs.Verdicts.{verdictAs}
 use Rattle.records.specs.Answers.{totalsAs, resultsAs}
 use Rattle.text.specs.Program.{dayCount, dayAt, noResults}
-use Rattle.text.proofs.OneDayLaws.{parts, Room, no-results, room, after, room-left, parts-left}
+use Rattle.text.proofs.OneDayLaws.{parts, Room, no-results, room, after, left}
 use Rattle.text.proofs.RunLaws.{Running, underway-first, day-count, all-told, told-last, told-more}
 
+-- apart from the places, of which `omega` would read all that is known
 none-before : {n : ℕ} → 0 ≤ n
 none-before = omega arith
 
@@ -84,21 +85,14 @@ arrays e =
     (after (cells h) (h .loop .evapotranspired) (part e .evapotranspired)) (after (cells h) (h .loop .recharged) (part e .recharged))
     (after (cells h) (h .loop .rejected) (part e .rejected))
 
+-- which have room, and hold at their fronts what the day left
 held : (e : tie.After-day Inv-loop μ-loop)
     → Room (cells (head (date e))) (arrays e .intercepted) (arrays e .outflow) (arrays e .evapotranspired) (arrays e .recharged) (arrays e .rejected)
+    × (parts (cells (head (date e))) (arrays e .intercepted) (arrays e .outflow) (arrays e .evapotranspired) (arrays e .recharged) (arrays e .rejected) ≡ part e)
 held e =
     let kept = e .day .kept .1 .1 .1 .1 .1 .1 .1 .1 .1 in
     let h = head (date e) in
-    room-left (cells h) (h .loop .intercepted) (h .loop .outflow) (h .loop .evapotranspired) (h .loop .recharged) (h .loop .rejected)
-    (part e .intercepted) (part e .outflow) (part e .evapotranspired) (part e .recharged) (part e .rejected)
-    (h .loop .inv .room) (kept .0) (kept .1 .0) (kept .1 .1 .0) (kept .1 .1 .1 .0) (kept .1 .1 .1 .1 .0)
-
-found : (e : tie.After-day Inv-loop μ-loop)
-    → parts (cells (head (date e))) (arrays e .intercepted) (arrays e .outflow) (arrays e .evapotranspired) (arrays e .recharged) (arrays e .rejected) ≡ part e
-found e =
-    let kept = e .day .kept .1 .1 .1 .1 .1 .1 .1 .1 .1 in
-    let h = head (date e) in
-    parts-left (cells h) (h .loop .intercepted) (h .loop .outflow) (h .loop .evapotranspired) (h .loop .recharged) (h .loop .rejected)
+    left (cells h) (h .loop .intercepted) (h .loop .outflow) (h .loop .evapotranspired) (h .loop .recharged) (h .loop .rejected)
     (part e .intercepted) (part e .outflow) (part e .evapotranspired) (part e .recharged) (part e .rejected)
     (h .loop .inv .room) (kept .0) (kept .1 .0) (kept .1 .1 .0) (kept .1 .1 .1 .0) (kept .1 .1 .1 .1 .0)
 
@@ -207,13 +201,13 @@ loop-again c = let told = c .before .before in
       within = next-turn (at .before .loop-test .taken);
       soils = e .day .kept .1 .1 .1 .1 .1 .1 .1 .0 ∙ h .loop .inv .soils;
       snows = e .day .kept .1 .1 .1 .1 .1 .1 .1 .1 .0 ∙ h .loop .inv .snows;
-      room = held e;
+      room = held e .0;
       underway =
           told-more (start h .args .numbers .now) (setup h) (first h) (noResults (cells h)) (start h .args .output .now) (h .loop .output) (state h) (results h)
           (h .loop .at) (h .loop .done) (h .loop .k) (start h .pre .coded) (h .loop .inv .underway)
           (dayAs (at .day-at .result)) (at .day-at .ensures) (more at)
           (verdictAs (e .day .result .verdict)) (part e) _ (totalsAs (e .day .result .totals)) (state′ e) _ _ _
-          (found e) (e .day .ensures) (tell .tell .ensures) (told .next .given .1);
+          (held e .1) (e .day .ensures) (tell .tell .ensures) (told .next .given .1);
     }
 
 ended-requires : tie.Need-ended-requires Inv-loop μ-loop

@@ -20,6 +20,13 @@ season fresh = fresh .before .before .before
 abbrev start : tie.After-season-in → tie.Start
 start season = season .before .before .before .before .before .before .before .before .before .before .before
 
+-- and from each end back to those stores
+abbrev refused : tie.After-slice-known6 → tie.After-slice-known5
+refused c = c .before .before .before .before .before .before .before
+
+abbrev ran : tie.After-slice-known9 → tie.After-slice-known5
+ran c = c .before .before .before .before .before .before .before .before .before .before .before .before .before
+
 -- the state that the fresh state left in the stores
 abbrev left : tie.After-fresh → State
 left f = stateAs (f .fresh .last .1 .1 .1 .1 .1 .1 .1 .0) (f .fresh .last .1 .1 .1 .1 .1 .1 .1 .1 .0) (f .fresh .result .past)
@@ -79,19 +86,19 @@ enum-told : tie.Need-enum-told
 enum-told c = search needs
 
 same-length : tie.Need-same-length
-same-length c = c .before .before .before .before .before .before .before .before .before .before .soil .given
+same-length c = refused c .before .before .before .soil .given
 
 same-length-2 : tie.Need-same-length-2
-same-length-2 c = c .before .before .before .before .before .before .before .before .snow .given
+same-length-2 c = refused c .before .snow .given
 
 same-length-3 : tie.Need-same-length-3
 same-length-3 c = c .before .output .given
 
 same-length-4 : tie.Need-same-length-4
-same-length-4 c = c .before .before .before .before .before .soil2 .given ∙ c .before .before .before .before .before .before .before .before .before .before .before .before .before .before .before .before .soil .given
+same-length-4 c = c .before .before .before .before .before .soil2 .given ∙ ran c .before .before .before .soil .given
 
 same-length-5 : tie.Need-same-length-5
-same-length-5 c = c .before .before .before .snow2 .given ∙ c .before .before .before .before .before .before .before .before .before .before .before .before .before .before .snow .given
+same-length-5 c = c .before .before .before .snow2 .given ∙ ran c .before .snow .given
 
 same-length-6 : tie.Need-same-length-6
 same-length-6 c = c .before .output2 .given
