@@ -36,6 +36,11 @@ use Rattle.admission.specs.declared.tests.Tested.{Tested}
 clash : (why : Refusal) → accepted ≡ refused why → ⊥
 clash why e = let z : _≡_ {A = ℕ} 0 1 = cc in omega arith
 
+-- a verdict that no refusal is
+unrefused : (v : Verdict) → ((why : Refusal) → v ≡ refused why → ⊥) → v ≡ accepted
+unrefused accepted never = refl
+unrefused (refused why) never = absurd (never why refl)
+
 -- a refusal of the first tests stands, whatever comes after them
 pub stands : (us vs : List Test) (v : code.Verdict) → v ≡ verdictIn (verdict us) → (v ≡ Accepted → ⊥) → v ≡ verdictIn (verdict (us ++ vs))
 stands us vs v e not = go (verdict us) refl
@@ -164,18 +169,10 @@ module _ (s : Setup) (more : List ℕ) (st : State) (d : Day) where
   survey-refuses-all ok why v = refused-then (dayTests s st d) (setupTests s (setupLengths s ++ more)) why (more-fit s more (lent-passes (s .grid) more ok) ∙ v)
 
   lent-accepts : all ≡ accepted → first ≡ accepted
-  lent-accepts a = go first refl
-    where
-      go : (v : Verdict) → first ≡ v → first ≡ accepted
-      go accepted q = q
-      go (refused why) q = absurd (clash why (sym a ∙ lent-refuses-all why q))
+  lent-accepts a = unrefused first (λ why q. clash why (sym a ∙ lent-refuses-all why q))
 
   survey-accepts : all ≡ accepted → checkOf s ≡ accepted
-  survey-accepts a = go (checkOf s) refl
-    where
-      go : (v : Verdict) → checkOf s ≡ v → checkOf s ≡ accepted
-      go accepted q = q
-      go (refused why) q = absurd (clash why (sym a ∙ survey-refuses-all (lent-accepts a) why q))
+  survey-accepts a = unrefused (checkOf s) (λ why q. clash why (sym a ∙ survey-refuses-all (lent-accepts a) why q))
 
   module _ (before : Arrays) (r : Tested) (after : Arrays) where
     -- an admitted day has the arrays of its setup, and the plots of the day

@@ -23,29 +23,6 @@ pub struct Answer {
     pub past: Past,
 }
 
-impl Answer {
-    // A refused day hands back what it was given, and no totals.
-    pub fn refused(verdict: Verdict, past: Past) -> Answer
-        ensures { λ r. ⌜ (r .verdict ≡ verdict) × (totalsAs (r .totals) ≡ noTotals) × (r .past ≡ past) ⌝ }
-    {
-        Answer {
-            verdict,
-            totals: Totals::none(),
-            past,
-        }
-    }
-
-    pub fn accepted(totals: Totals, past: Past) -> Answer
-        ensures { λ r. ⌜ (r .verdict ≡ Accepted) × (r .totals ≡ totals) × (r .past ≡ past) ⌝ }
-    {
-        Answer {
-            verdict: Verdict::Accepted,
-            totals,
-            past,
-        }
-    }
-}
-
 // What a fresh state has besides its stores.
 pub struct Start {
     pub verdict: Verdict,
@@ -64,6 +41,30 @@ impl Totals {
             rejected: Depth(0),
             gone: Depth(0),
             stored: Depth(0),
+        }
+    }
+}
+
+impl Answer {
+    // A refused day hands back what it was given, and no totals.
+    pub fn refused(verdict: Verdict, past: Past) -> Answer
+        ensures { λ r. ⌜ (r .verdict ≡ verdict) × (totalsAs (r .totals) ≡ noTotals) × (r .past ≡ past) ⌝ }
+    {
+        Answer {
+            verdict,
+            totals: Totals::none(),
+            past,
+        }
+    }
+
+    // An accepted day hands back its totals and what the next day remembers.
+    pub fn accepted(totals: Totals, past: Past) -> Answer
+        ensures { λ r. ⌜ (r .verdict ≡ Accepted) × (r .totals ≡ totals) × (r .past ≡ past) ⌝ }
+    {
+        Answer {
+            verdict: Verdict::Accepted,
+            totals,
+            past,
         }
     }
 }

@@ -39,13 +39,13 @@ abbrev from-memory : tie.After-keep-memory-arg → tie.After-day
 from-memory c = c .before .before .before .before .before .before .before .before .before .before .before .before .before .before .before .before .before .before
 
 abbrev from-last : tie.After-keep-last-arg → tie.After-day
-from-last c = c .before .before .before .before .before .before .before .before .before .before .before .before .before .before .before .before .before .before .before .before .before .before
+from-last c = from-memory (c .before .before .before .before)
 
 abbrev from-totals : tie.After-write-totals-arg → tie.After-day
-from-totals c = c .before .before .before .before .before .before .before .before .before .before .before .before .before .before .before .before .before .before .before .before .before .before .before .before .before .before
+from-totals c = from-last (c .before .before .before .before)
 
 abbrev from-end : tie.After-returned-as → tie.After-day
-from-end c = c .before .before .before .before .before .before .before .before .before .before .before .before .before .before .before .before .before .before .before .before .before .before .before .before .before .before .before .before .before .before
+from-end c = from-totals (c .before .before .before .before)
 
 abbrev tested : tie.After-day → tie.Else3
 tested c = c .before .before .before .before .before .before .before .before .before .before .before .before .before

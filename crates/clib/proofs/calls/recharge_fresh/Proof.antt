@@ -17,9 +17,22 @@ the-setup c =
 abbrev the-stores : tie.Start → Stores
 the-stores c = storesFrom (c .args .soil .now) (c .args .snow .now) (c .args .memory .now) (c .args .last-serial .now)
 
+-- from the end back to each slice that a call gave back
+abbrev last-serial : tie.After-returned-as → tie.After-last-serial
+last-serial c = c .before .before
+
+abbrev memory : tie.After-returned-as → tie.After-memory
+memory c = last-serial c .before .before .before .before
+
+abbrev snow : tie.After-returned-as → tie.After-snow
+snow c = memory c .before .before .before .before .before .before
+
+abbrev soil : tie.After-returned-as → tie.After-soil
+soil c = snow c .before .before
+
 -- where the fresh state was called, and the start, seen from the end
 abbrev begins : tie.After-returned-as → tie.After-fresh
-begins c = c .before .before .before .before .before .before .before .before .before .before .before .before .before .before .before
+begins c = soil c .before
 
 abbrev start : tie.After-returned-as → tie.Start
 start c = begins c .before .before .before .before .before .before .before .before .before .before .before .before .before .before
@@ -41,19 +54,6 @@ keep-last-requires c κs = search needs
 
 returned-as-requires : tie.Need-returned-as-requires
 returned-as-requires c κs = fresh-near _ _ _ (c .before .before .before .before .before .before .before .before .before .before .before .before .before .before .fresh .ensures)
-
--- from the end back to each slice that a call gave back
-abbrev last-serial : tie.After-returned-as → tie.After-last-serial
-last-serial c = c .before .before
-
-abbrev memory : tie.After-returned-as → tie.After-memory
-memory c = last-serial c .before .before .before .before
-
-abbrev snow : tie.After-returned-as → tie.After-snow
-snow c = memory c .before .before .before .before .before .before
-
-abbrev soil : tie.After-returned-as → tie.After-soil
-soil c = snow c .before .before
 
 same-length : tie.Need-same-length
 same-length c = soil c .soil .given
