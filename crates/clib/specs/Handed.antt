@@ -9,7 +9,7 @@ use Rattle.paper.specs.Setup.{Setup}
 use Rattle.paper.specs.State.{State, Day}
 use Rattle.paper.specs.Refusals.{refused, lent}
 use Rattle.paper.specs.Day as paper
-use Rattle.clib.specs.Numbers.{returned, memoryFrom, memoryList, lastFrom, lastList, totalsList}
+use Rattle.clib.specs.Numbers.{returned, memoryList, lastList, pastFrom, lengthsFit, totalsList}
 
 abbrev pub setupFrom : ℕ → ℕ → ℕ → ℕ → List ℕ → List ℕ → List ℕ → List ℕ → List ℕ → Setup
 setupFrom width height first last covers direction cover group available =
@@ -46,8 +46,7 @@ abbrev pub storesFrom : List ℕ → List ℕ → List ℕ → List ℕ → Stor
 storesFrom soil snow memory last = record { soil = soil; snow = snow; memory = memory; last = last }
 
 unfoldable pub stateFrom : Stores → State
-stateFrom l =
-    record { soil = l .soil; snow = l .snow; past = record { memory = memoryFrom (l .memory); last = lastFrom (l .last) } }
+stateFrom l = record { soil = l .soil; snow = l .snow; past = pastFrom (l .memory) (l .last) }
 
 unfoldable pub storesOf : State → Stores
 storesOf st = storesFrom (st .soil) (st .snow) (memoryList (st .past .memory)) (lastList (st .past .last))
@@ -60,9 +59,8 @@ pub record Begun : Type 0 where
 abbrev pub begun : ℕ → List ℕ → List ℕ → List ℕ → List ℕ → Begun
 begun number soil snow memory last = record { number = number; stores = storesFrom soil snow memory last }
 
--- memory five numbers, last serial one
 unfoldable pub keepable : Stores → Bool
-keepable l = eqb (length (l .memory)) 5 && eqb (length (l .last)) 1
+keepable l = lengthsFit (length (l .memory)) (length (l .last))
 
 unfoldable pub begunAs : paper.Fresh → Begun
 begunAs o = record { number = returned (o .verdict); stores = storesOf (o .state) }

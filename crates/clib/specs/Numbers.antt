@@ -1,10 +1,11 @@
--- What C hands over and gets as the paper's verdict, memory, last serial and totals.
-use mathlib.Core.Bool.{cond}
+-- What C hands over and gets as the paper's verdict, past and totals.
+use mathlib.Core.Bool.{Bool, cond, _&&_}
 use mathlib.Core.List.{List, [], _∷_}
+use mathlib.Core.Path.{_≡_}
 use Prim.Native.Nat.{ℕ, _+_, _*_}
 use lib.Dec.{eqb}
-use lib.ListN.{getD}
-use Rattle.paper.specs.State.{Memory, Last, none, serial}
+use lib.ListN.{length, getD}
+use Rattle.paper.specs.State.{Memory, Last, none, serial, Past}
 use Rattle.paper.specs.Refusals.{Verdict, verdictNumber, verdictPlace}
 use Rattle.paper.specs.Day.{Totals}
 
@@ -39,6 +40,23 @@ lastNumber (serial n) = n
 
 unfoldable pub lastList : Last → List ℕ
 lastList last = lastNumber last ∷ []
+
+-- what a state has besides its stores
+unfoldable pub pastFrom : List ℕ → List ℕ → Past
+pastFrom memory last = record { memory = memoryFrom memory; last = lastFrom last }
+
+-- written into slices of their own
+pub record Kept (p : Past) (memory last : List ℕ) : Type 0 where
+  pub memory-is : memory ≡ memoryList (p .memory)
+  pub last-is : last ≡ lastList (p .last)
+
+-- by lengths: memory five numbers, last serial one
+abbrev pub lengthsFit : ℕ → ℕ → Bool
+lengthsFit memory last = eqb memory 5 && eqb last 1
+
+pub record Lengths (memory last : List ℕ) : Type 0 where
+  pub five : length memory ≡ 5
+  pub one : length last ≡ 1
 
 -- in the paper's order
 unfoldable pub totalsList : Totals → List ℕ

@@ -5,13 +5,11 @@ ghost use Rattle.clib.specs.Numbers.{returned};
 ghost use Rattle.clib.specs.Handed.{setupFrom, dayFrom, storesFrom, resultsFrom, begun, freshFrom, handed, dayGives};
 use crate::numbers::returned_as;
 use crate::state::day_from;
-use crate::state::keep_last;
-use crate::state::keep_memory;
-use crate::state::last_from;
-use crate::state::memory_from;
+use crate::state::keep_past;
+use crate::state::lengths_fit;
+use crate::state::past_from;
 use crate::state::write_totals;
 use records::Grid;
-use records::Past;
 use records::Season;
 
 // Refusal 2 at 0.
@@ -57,10 +55,7 @@ pub extern "C" fn recharge_fresh(
         ≡ freshFrom (setupFrom width height first last (now (covers .entry)) (now (direction .entry)) (now (cover .entry)) (now (group .entry)) (now (available .entry)))
         (storesFrom (now (soil .entry)) (now (snow .entry)) (now (memory .entry)) (now («last_serial» .entry))) ⌝ }
 {
-    if memory.len() != 5 {
-        return LENT;
-    }
-    if last_serial.len() != 1 {
+    if !lengths_fit(memory.len(), last_serial.len()) {
         return LENT;
     }
     let grid = Grid { width, height };
@@ -76,12 +71,9 @@ pub extern "C" fn recharge_fresh(
         soil,
         snow,
     );
-    let past = start.past;
+    let kept = start.past;
     let verdict = start.verdict;
-    let remembered = past.memory;
-    let seen = past.last;
-    keep_memory(remembered, memory);
-    keep_last(seen, last_serial);
+    keep_past(kept, memory, last_serial);
     returned_as(verdict)
 }
 
@@ -122,13 +114,7 @@ pub extern "C" fn recharge_day(
         (resultsFrom (now (intercepted .entry)) (now (outflow .entry)) (now (evapotranspired .entry)) (now (recharged .entry)) (now (rejected .entry)))
         (now (totals .entry)) (dayFrom serial «day_of_year» gross minimum mean maximum potential) ⌝ }
 {
-    if memory.len() != 5 {
-        return LENT;
-    }
-    if last_serial.len() != 1 {
-        return LENT;
-    }
-    if totals.len() != 7 {
+    if !(lengths_fit(memory.len(), last_serial.len()) & (totals.len() == 7)) {
         return LENT;
     }
     let grid = Grid { width, height };
@@ -142,12 +128,7 @@ pub extern "C" fn recharge_day(
         maximum,
         potential,
     );
-    let before = memory_from(memory);
-    let latest = last_from(last_serial);
-    let past = Past {
-        memory: before,
-        last: latest,
-    };
+    let past = past_from(memory, last_serial);
     let answer = recharge::day(
         grid,
         season,
@@ -169,10 +150,7 @@ pub extern "C" fn recharge_day(
     let kept = answer.past;
     let sums = answer.totals;
     let verdict = answer.verdict;
-    let remembered = kept.memory;
-    let seen = kept.last;
-    keep_memory(remembered, memory);
-    keep_last(seen, last_serial);
+    keep_past(kept, memory, last_serial);
     write_totals(sums, totals);
     returned_as(verdict)
 }

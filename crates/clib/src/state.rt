@@ -1,17 +1,18 @@
-// The memory, the last serial, the day record and the totals as plain numbers.
+// What a state has besides its stores, the day record and the totals as plain numbers.
 ghost use mathlib.Core.Path.{_≡_};
 ghost use Prim.Native.Nat.{_<_};
 ghost use lib.ListN.{length};
-ghost use Rattle.records.specs.Past.{memoryAs, lastAs};
+ghost use Rattle.records.specs.Past.{memoryAs, lastAs, pastAs};
 ghost use Rattle.records.specs.Days.{dayAs};
 ghost use Rattle.records.specs.Answers.{totalsAs};
-ghost use Rattle.clib.specs.Numbers.{memoryFrom, memoryList, lastFrom, lastList, lastNumber, totalsList};
+ghost use Rattle.clib.specs.Numbers.{memoryFrom, memoryList, lastFrom, lastList, lastNumber, pastFrom, Kept, lengthsFit, Lengths, totalsList};
 ghost use Rattle.clib.specs.Handed.{dayFrom};
-ghost use Rattle.clib.specs.Narrow.{narrow, Narrow};
+ghost use Rattle.clib.specs.Narrow.{narrow, NarrowMemory, Narrow};
 use records::DayRecord;
 use records::Depth;
 use records::Last;
 use records::Memory;
+use records::Past;
 use records::TenthF;
 use records::Totals;
 
@@ -24,9 +25,16 @@ fn depth(figure: u32) -> Depth
     Depth(figure as u64)
 }
 
-pub(crate) fn memory_from(memory: &[u32]) -> Memory
+// With another length there is nowhere to put an answer.
+pub(crate) fn lengths_fit(memory: usize, last: usize) -> bool
+    ensures { λ r. ⌜ r ≡ lengthsFit memory last ⌝ }
+{
+    (memory == 5) & (last == 1)
+}
+
+fn memory_from(memory: &[u32]) -> Memory
     requires { ⌜ length (now memory) ≡ 5 ⌝ }
-    ensures { λ r. ⌜ (memoryAs r ≡ memoryFrom (now (memory .entry))) × Narrow (memoryAs r) ⌝ }
+    ensures { λ r. ⌜ (memoryAs r ≡ memoryFrom (now (memory .entry))) × NarrowMemory (memoryAs r) ⌝ }
 {
     Memory {
         oldest: depth(memory[0]),
@@ -37,7 +45,7 @@ pub(crate) fn memory_from(memory: &[u32]) -> Memory
     }
 }
 
-pub(crate) fn last_from(last: &[u32]) -> Last
+fn last_from(last: &[u32]) -> Last
     requires { ⌜ length (now last) ≡ 1 ⌝ }
     ensures { λ r. ⌜ lastAs r ≡ lastFrom (now (last .entry)) ⌝ }
 {
@@ -46,6 +54,15 @@ pub(crate) fn last_from(last: &[u32]) -> Last
         return Last::Never;
     }
     Last::Serial(serial)
+}
+
+pub(crate) fn past_from(memory: &[u32], last: &[u32]) -> Past
+    requires { ⌜ Lengths (now memory) (now last) ⌝ }
+    ensures { λ r. ⌜ (pastAs r ≡ pastFrom (now (memory .entry)) (now (last .entry))) × Narrow (pastAs r) ⌝ }
+{
+    let memory = memory_from(memory);
+    let last = last_from(last);
+    Past { memory, last }
 }
 
 pub(crate) fn day_from(
@@ -70,8 +87,8 @@ pub(crate) fn day_from(
     }
 }
 
-pub(crate) fn keep_memory(kept: Memory, memory: &mut [u32])
-    requires { ⌜ Narrow (memoryAs kept) × (length (now memory) ≡ 5) ⌝ }
+fn keep_memory(kept: Memory, memory: &mut [u32])
+    requires { ⌜ NarrowMemory (memoryAs kept) × (length (now memory) ≡ 5) ⌝ }
     ensures { λ r. ⌜ now (memory .exit) ≡ memoryList (memoryAs kept) ⌝ }
 {
     let oldest = kept.oldest.0;
@@ -95,11 +112,21 @@ fn serial_of(last: Last) -> u32
     }
 }
 
-pub(crate) fn keep_last(kept: Last, last: &mut [u32])
+fn keep_last(kept: Last, last: &mut [u32])
     requires { ⌜ length (now last) ≡ 1 ⌝ }
     ensures { λ r. ⌜ now (last .exit) ≡ lastList (lastAs kept) ⌝ }
 {
     last[0] = serial_of(kept);
+}
+
+pub(crate) fn keep_past(kept: Past, memory: &mut [u32], last: &mut [u32])
+    requires { ⌜ Narrow (pastAs kept) × Lengths (now memory) (now last) ⌝ }
+    ensures { λ r. ⌜ Kept (pastAs kept) (now (memory .exit)) (now (last .exit)) ⌝ }
+{
+    let remembered = kept.memory;
+    let seen = kept.last;
+    keep_memory(remembered, memory);
+    keep_last(seen, last);
 }
 
 pub(crate) fn write_totals(sums: Totals, totals: &mut [u64])

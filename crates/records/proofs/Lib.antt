@@ -1,3 +1,4 @@
+pub mod Temperatures
 pub mod PlaceLaws
 pub mod VerdictLaws
 pub mod AnswerLaws

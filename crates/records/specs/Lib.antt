@@ -2,6 +2,7 @@
 pub mod Grids
 pub mod Past
 pub mod Days
+pub mod Temperatures
 pub mod Verdicts
 pub mod Places
 pub mod Answers

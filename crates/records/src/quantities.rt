@@ -1,7 +1,10 @@
 // The paper's quantities, each a type of its own, so that a temperature handed over where a depth belongs does not compile.
 // The limits that bound a quantity stand with it.
 ghost use mathlib.Core.Path.{_≡_};
-ghost use Prim.Native.Nat.{_-_, min};
+ghost use Prim.Native.Nat.{_-_, _<_, min};
+ghost use Rattle.paper.specs.Snow.{aboveFreezing};
+ghost use Rattle.records.specs.Days.{tenths};
+ghost use Rattle.records.specs.Temperatures.{farthest};
 
 // Units of 0.0001 inch.
 pub struct Depth(pub u64);
@@ -51,6 +54,16 @@ impl TenthF {
     pub const LEAST: TenthF = TenthF(-1000);
 
     pub const MOST: TenthF = TenthF(1500);
+
+    // Tenths above freezing; 0 where it is not.
+    pub fn above_freezing(self) -> u64
+        ensures { λ r. ⌜ (r ≡ aboveFreezing (tenths self)) × (r < farthest) ⌝ }
+    {
+        if self.0 <= TenthF::FREEZING.0 {
+            return 0;
+        }
+        (self.0 - TenthF::FREEZING.0) as u64
+    }
 }
 
 impl CurveNumber {

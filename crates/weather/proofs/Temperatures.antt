@@ -1,19 +1,19 @@
--- Rule 3 on the machine's signed numbers: measured temperatures are small enough that every step fits 32 bits, and so reads back as itself.
+-- Rule 3's test on the machine's signed numbers: measured temperatures are small enough that every step fits 32 bits, and so reads back as itself.
 -- A size `mag z` is n for n and for -(n + 1); a sum, a negation and a triple each make it larger by a little more than the paper's numbers would.
 use mathlib.Core.Bool.{true, false}
 use mathlib.Core.Path.{_≡_, refl, ap, _∙_}
-use Prim.Native.Nat.{ℕ, zero, suc, _+_, _*_, _/_, _≤_, _<_}
+use Prim.Native.Nat.{ℕ, zero, suc, _+_, _*_, _≤_, _<_}
 use native.Mathlib.Omega.{arith}
-use lib.Dec.{T, leb}
-use lib.IntN.{ℤ, pos, negsuc, negℤ, natAbs, subℕ, _+ℤ_, _-ℤ_, _*ℤ_}
-use lib.Signed.{mag, leZ, nonNeg}
-use mir.Syntax.{w32, w64}
-use mir.Val.{Fits, SFits, toZ, ofZ}
+use lib.Dec.{leb}
+use lib.IntN.{ℤ, pos, negsuc, negℤ, subℕ, _+ℤ_, _-ℤ_, _*ℤ_}
+use lib.Signed.{mag, leZ}
+use mir.Syntax.{w32}
+use mir.Val.{SFits, toZ, ofZ}
 use mir.Facts.{toZ-ofZ}
-use borrow.Author.Tests.{leb-true, leb-false, lt-ltb, le-ltb}
+use borrow.Author.Tests.{leb-true, lt-ltb, le-ltb}
 use Rattle.theory.proofs.Cases.{and-left, below-or-not}
 use Rattle.paper.specs.Limits.{withinℤ, leastTemperature, mostTemperature}
-use Rattle.paper.specs.Snow.{fallsAsSnow, aboveFreezing, meltable}
+use Rattle.paper.specs.Snow.{fallsAsSnow}
 
 mag-sub : (a b : ℕ) → mag (subℕ a b) ≤ a + b
 mag-sub a b = below-or-not a b (λ h. rw (lt-ltb a b h) (omega arith)) (λ h. rw (le-ltb a b h) (omega arith))
@@ -82,44 +82,3 @@ module _ (minimum mean maximum : ℤ) (l : Measured minimum) (m : Measured mean)
   index-test =
       ap (λ (z : ℤ). leZ z (pos 960))
       (toZ-ofZ index-fits ∙ ap (λ (z : ℤ). z -ℤ read (read maximum -ℤ read minimum)) triple ∙ ap (λ (z : ℤ). pos 3 *ℤ mean -ℤ z) spanned)
-
--- aboveFreezing for a maximum that the test against the freezing point let by, and for one that it did not
-above-none : (z : ℤ) → leZ z (pos 320) ≡ true → aboveFreezing z ≡ 0
-unfolding aboveFreezing
-above-none (pos n) e = omega (arith, leb-true n 320 e)
-above-none (negsuc n) e = refl
-
-above-some : (z : ℤ) → leZ z (pos 320) ≡ false → z -ℤ pos 320 ≡ pos (aboveFreezing z)
-unfolding aboveFreezing
-above-some (pos n) e = rw (le-ltb n 320 (omega (arith, leb-false n 320 e)))
-above-some (negsuc n) e = cc
-
-above-most : (z : ℤ) → Measured z → aboveFreezing z ≤ 1500
-unfolding aboveFreezing
-above-most (pos n) h = omega (arith, small (pos n) h)
-above-most (negsuc n) h = omega arith
-
-module _ (maximum : ℤ) (h : Measured maximum) where
-  whole : read maximum ≡ maximum
-  whole = same maximum (omega (arith, small maximum h))
-
-  pub melts-none : leZ (read maximum) (pos 320) ≡ true → 0 ≡ meltable maximum
-  unfolding meltable
-  melts-none p = rw (above-none maximum (rw whole at p))
-
-  pub above-fits : SFits w32 (read maximum -ℤ pos 320)
-  above-fits = rw whole (fits _ (omega (arith, mag-minus maximum (pos 320), small maximum h)))
-
-  module _ (p : leZ (read maximum) (pos 320) ≡ false) where
-    above : read (read maximum -ℤ pos 320) ≡ pos (aboveFreezing maximum)
-    above = toZ-ofZ above-fits ∙ ap (λ (z : ℤ). z -ℤ pos 320) whole ∙ above-some maximum (rw whole at p)
-
-    pub above-cast : T (nonNeg (read (read maximum -ℤ pos 320))) × Fits w64 (natAbs (read (read maximum -ℤ pos 320)))
-    above-cast = rw above (tt, record { fits = omega (arith, above-most maximum h) })
-
-    pub melts-fit : Fits w64 (295 * natAbs (read (read maximum -ℤ pos 320)))
-    melts-fit = rw above (record { fits = omega (arith, above-most maximum h) })
-
-    pub melts : 295 * natAbs (read (read maximum -ℤ pos 320)) / 9 ≡ meltable maximum
-    unfolding meltable
-    melts = rw above

@@ -18,14 +18,9 @@ pub(crate) fn falls_as_snow(minimum: TenthF, mean: TenthF, maximum: TenthF) -> b
 
 // What the day's warmth can melt of any store.
 pub(crate) fn meltable(maximum: TenthF) -> Depth
-    requires { ⌜ Measured maximum ⌝ }
     ensures { λ r. ⌜ r .0 ≡ rule3 (tenths maximum) ⌝ }
 {
-    let freezing = TenthF::FREEZING.0;
-    if maximum.0 <= freezing {
-        return Depth(0);
-    }
-    let above = (maximum.0 - freezing) as u64;
+    let above = maximum.above_freezing();
     Depth(Depth::MELT.0 * above / Depth::MELT_TENTHS)
 }
 

@@ -3,10 +3,12 @@
 use borrow.Author.Needs.{needs}
 use Rattle.clib.proofs.calls.recharge_fresh.Statement.{statement}
 use Rattle.clib.proofs.calls.recharge_fresh.Tie as tie
-use borrow.Author.Tests.{ne-eqb}
+use mathlib.Core.Bool.{true, false}
+use mathlib.Core.Path.{_≡_, sym, _∙_}
+use borrow.Author.Tests.{not-true, not-false}
 use Rattle.paper.specs.Setup.{Setup}
-use Rattle.clib.specs.Handed.{Stores, setupFrom, storesFrom}
-use Rattle.clib.proofs.HandedLaws.{memory-unkept, last-unkept, both-kept, fresh-lent, fresh-near, fresh-narrow, fresh-handed}
+use Rattle.clib.specs.Handed.{Stores, setupFrom, storesFrom, keepable}
+use Rattle.clib.proofs.HandedLaws.{lengths-known, fresh-lent, fresh-near, fresh-narrow, fresh-handed}
 
 -- what was lent
 abbrev the-setup : tie.Start → Setup
@@ -17,73 +19,64 @@ the-setup c =
 abbrev the-stores : tie.Start → Stores
 the-stores c = storesFrom (c .args .soil .now) (c .args .snow .now) (c .args .memory .now) (c .args .last-serial .now)
 
+abbrev start : tie.After-lengths-fit → tie.Start
+start c = c .before .before .before .before .before .before .before .before .before .before
+
 -- from the end back to each slice that a call gave back
 abbrev last-serial : tie.After-returned-as → tie.After-last-serial
 last-serial c = c .before .before
 
 abbrev memory : tie.After-returned-as → tie.After-memory
-memory c = last-serial c .before .before .before .before
+memory c = last-serial c .before .before
 
-abbrev snow : tie.After-returned-as → tie.After-snow
-snow c = memory c .before .before .before .before .before .before
+-- where the past was kept, seen from the end, and the fresh state called, seen from there
+abbrev keeps : tie.After-returned-as → tie.After-keep-past
+keeps c = memory c .before
 
-abbrev soil : tie.After-returned-as → tie.After-soil
+abbrev snow : tie.After-keep-past-arg2 → tie.After-snow
+snow c = c .before .before .before .before
+
+abbrev soil : tie.After-keep-past-arg2 → tie.After-soil
 soil c = snow c .before .before
 
--- where the fresh state was called, and the start, seen from the end
-abbrev begins : tie.After-returned-as → tie.After-fresh
+abbrev begins : tie.After-keep-past-arg2 → tie.After-fresh
 begins c = soil c .before
 
-abbrev start : tie.After-returned-as → tie.Start
-start c = begins c .before .before .before .before .before .before .before .before .before .before .before .before .before .before
+abbrev tested : tie.After-fresh → tie.Else1
+tested c = c .before .before .before
+
+kept : (c : tie.Else1) → keepable (the-stores (start (c .before))) ≡ true
+unfolding keepable
+kept c = sym (c .before .lengths-fit .ensures) ∙ not-false _ (c .if1 .left)
 
 returns : tie.Need-returns
-returns c = fresh-lent _ _ (memory-unkept _ (ne-eqb _ _ (c .if1 .taken)))
+unfolding keepable
+returns c = fresh-lent _ _ (sym (c .before .lengths-fit .ensures) ∙ not-true _ (c .if1 .taken))
 
-returns-2 : tie.Need-returns-2
-returns-2 c = fresh-lent _ _ (last-unkept _ (ne-eqb _ _ (c .if2 .taken)))
-
-fresh-requires : tie.Need-fresh-requires
-fresh-requires c κs = search needs
-
-keep-memory-requires : tie.Need-keep-memory-requires
-keep-memory-requires c κs = (fresh-narrow _ _ _ (c .before .before .before .before .before .before .before .fresh .ensures), search needs)
-
-keep-last-requires : tie.Need-keep-last-requires
-keep-last-requires c κs = search needs
+keep-past-requires : tie.Need-keep-past-requires
+unfolding keepable
+keep-past-requires c κs = (fresh-narrow _ _ _ (begins c .fresh .ensures), lengths-known (kept (tested (begins c))))
 
 returned-as-requires : tie.Need-returned-as-requires
-returned-as-requires c κs = fresh-near _ _ _ (c .before .before .before .before .before .before .before .before .before .before .before .before .before .before .fresh .ensures)
+returned-as-requires c κs = fresh-near _ _ _ (begins (c .before .before .before .before .before) .fresh .ensures)
 
-same-length : tie.Need-same-length
-same-length c = soil c .soil .given
-
-same-length-2 : tie.Need-same-length-2
-same-length-2 c = snow c .snow .given
-
-same-length-3 : tie.Need-same-length-3
-same-length-3 c = memory c .memory .given
-
-same-length-4 : tie.Need-same-length-4
-same-length-4 c = last-serial c .last-serial .given
-
-returns-3 : tie.Need-returns-3
-returns-3 c = fresh-handed (the-setup (start c)) (the-stores (start c))
-    (both-kept _ (begins c .before .before .before .before .if1 .left) (begins c .before .before .before .if2 .left))
-    (begins c .fresh .ensures) (c .returned-as .ensures) (c .before .before .before .before .before .before .before .keep-memory .ensures) (c .before .before .before .keep-last .ensures)
+returns-2 : tie.Need-returns-2
+returns-2 c =
+    let at = begins (keeps c .before) in
+    let lent = start (tested at .before) in
+    fresh-handed (the-setup lent) (the-stores lent) (kept (tested at)) (at .fresh .ensures) (c .returned-as .ensures) (keeps c .keep-past .ensures)
 
 pub recharge-fresh-spec : {M : Type 1} → statement M
 recharge-fresh-spec =
     tie.close
     (tie.spec
+    (λ c κs. search needs)
     returns
-    returns-2
-    fresh-requires
-    keep-memory-requires
-    keep-last-requires
+    (λ c κs. search needs)
+    keep-past-requires
     returned-as-requires
-    same-length
-    same-length-2
-    same-length-3
-    same-length-4
-    returns-3)
+    (λ c. soil (keeps c .before) .soil .given)
+    (λ c. snow (keeps c .before) .snow .given)
+    (λ c. memory c .memory .given)
+    (λ c. last-serial c .last-serial .given)
+    returns-2)

@@ -7,4 +7,4 @@ use Rattle.weather.proofs.today.weather_of.Tie as tie
 
 pub weather-of-spec : {M : Type 1} → statement M
 unfolding today
-weather-of-spec = tie.close (tie.spec (λ c κs. search needs) (λ c κs. let d = day-known _ (c .before .before .before .before .before .pre .0) in (d .minimum, d .mean, d .maximum)) (λ c κs. day-known _ (c .before .before .before .before .before .before .pre .0) .maximum) (λ c κs. five-fit _ (c .before .before .before .before .before .before .before .pre .1)) (λ c. cc))
+weather-of-spec = tie.close (tie.spec (λ c κs. search needs) (λ c κs. let d = day-known _ (c .before .before .before .before .before .pre .0) in (d .minimum, d .mean, d .maximum)) (λ c κs. search needs) (λ c κs. five-fit _ (c .before .before .before .before .before .before .before .pre .1)) (λ c. cc))
