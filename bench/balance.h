@@ -2,11 +2,12 @@
  *
  * Every implementation offers the same three functions under its own prefix
  * (plain_, fast_, ...), so that they can be linked into one program and compared
- * cell by cell. The law is document 01; "rule" and "test" numbers are its own.
+ * cell by cell. The law is document 01 with document 02's request M-106, frozen ground; "rule"
+ * and "test" numbers are document 01's.
  *
  * Each function returns 0 when it accepts, else  number * 2^32 + place  of the
  * refusal. Depths are in units of 0.0001 inch, temperatures in tenths of a degree
- * Fahrenheit.
+ * Fahrenheit, the frost index and its setpoints in thousandths of a Celsius degree-day.
  */
 #ifndef BALANCE_H
 #define BALANCE_H
@@ -25,26 +26,28 @@ enum {
 /* The last serial of a state that has seen no day. */
 #define BALANCE_NO_SERIAL UINT32_MAX
 
-/* The setup: covers holds 16 numbers an entry (code, open water, four curve numbers,
- * four largest recharges, growing and dormant interception, four root depths);
- * covers_len counts the numbers, not the entries. The other four hold one number a cell. */
+/* The setup: first and last growing day; the frost index's setpoints; covers holds 16 numbers an
+ * entry (code, open water, four curve numbers, four largest recharges, growing and dormant
+ * interception, four root depths); covers_len counts the numbers, not the entries. The other four
+ * hold one number a cell. */
 #define BALANCE_SETUP_PARAMETERS                                    \
     uint32_t width, uint32_t height, uint32_t first, uint32_t last, \
+    uint32_t first_setpoint, uint32_t second_setpoint,              \
     const uint32_t *covers, size_t covers_len,                      \
     const uint32_t *direction, size_t direction_len,                \
     const uint32_t *cover, size_t cover_len,                        \
     const uint32_t *group, size_t group_len,                        \
     const uint32_t *water, size_t water_len
 
-/* The state: soil and snow hold one number a cell; memory_len is always 5 and
- * last_serial_len always 1. */
-#define BALANCE_STATE_PARAMETERS          \
-    uint32_t *soil, size_t soil_len,      \
-    uint32_t *snow, size_t snow_len,      \
-    uint32_t *memory, size_t memory_len,  \
-    uint32_t *last_serial, size_t last_serial_len
+/* The state: soil and snow hold one number a cell, memory 5, last_serial and frost_index 1. */
+#define BALANCE_STATE_PARAMETERS                    \
+    uint32_t *soil, size_t soil_len,                \
+    uint32_t *snow, size_t snow_len,                \
+    uint32_t *memory, size_t memory_len,            \
+    uint32_t *last_serial, size_t last_serial_len,  \
+    uint32_t *frost_index, size_t frost_index_len
 
-/* What a day gives back for each cell, and its totals (totals_len is always 7). */
+/* What a day gives back for each cell, and its 7 totals. */
 #define BALANCE_RESULT_PARAMETERS                       \
     uint32_t *intercepted, size_t intercepted_len,      \
     uint32_t *outflow, size_t outflow_len,              \
@@ -61,12 +64,15 @@ enum {
 /* Tests 1 to 6. */
 typedef uint64_t balance_check(BALANCE_SETUP_PARAMETERS);
 
-/* Tests 1 to 6, then the fresh state. Refused: soil and snow are left as they were,
- * memory is five zeros and the last serial none. */
+/* Tests 1 to 6, then the fresh state. Refused: soil and snow are left as they were, memory is five
+ * zeros, the last serial none and the frost index 0. */
 typedef uint64_t balance_fresh(BALANCE_SETUP_PARAMETERS, BALANCE_STATE_PARAMETERS);
 
-/* Tests 1 to 10, then one day. memory and last_serial are read, and written when the day
- * is accepted. Refused: the totals are zeros and nothing else is changed. */
+/* Tests 1 to 10, then one day. memory, last_serial and frost_index are read, and written when the
+ * day is accepted. Refused: the totals are zeros and nothing else is changed.
+ *
+ * In both, a memory, last serial, frost index or totals of another length is 2 at 0, before test 1,
+ * and nothing is written: there is nowhere to put an answer. */
 typedef uint64_t balance_day(BALANCE_SETUP_PARAMETERS, BALANCE_STATE_PARAMETERS,
                              BALANCE_RESULT_PARAMETERS, BALANCE_DAY_PARAMETERS);
 

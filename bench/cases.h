@@ -11,6 +11,7 @@ enum {
     CASE_ROOM = BALANCE_MAX_CELLS + 8, /* behind each slice, so that lengths may be a little off */
     CASE_COVERS = (BALANCE_MAX_COVERS + 2) * BALANCE_ENTRY,
     CASE_SLICES = 7,        /* soil, snow and the five results */
+    CASE_FIXED = 4,         /* memory, last serial, frost index and totals */
     CASE_TEXT_ROOM = 400000 /* bytes that are enough for every text made here */
 };
 
@@ -20,6 +21,7 @@ enum {
 struct grid_case {
     uint32_t cells; /* of the grid as it was made: damage leaves this alone */
     uint32_t width, height, first, last;
+    uint32_t first_setpoint, second_setpoint;
     uint32_t covers[CASE_COVERS];
     size_t covers_len;
     uint32_t direction[CASE_ROOM], cover[CASE_ROOM], group[CASE_ROOM], water[CASE_ROOM];
@@ -29,9 +31,14 @@ struct grid_case {
 /* A state with the lengths of the slices that a call is lent. */
 struct state_case {
     uint32_t soil[CASE_ROOM], snow[CASE_ROOM];
-    uint32_t memory[BALANCE_MEMORY], last_serial;
+    uint32_t memory[BALANCE_MEMORY], last_serial, frost_index;
     size_t len[CASE_SLICES];
+    size_t fixed_len[CASE_FIXED]; /* of the slices with a length of their own */
 };
+
+/* Which these are, and the lengths that they must have. */
+enum { F_MEMORY, F_LAST_SERIAL, F_FROST_INDEX, F_TOTALS };
+extern const size_t fixed_lengths[CASE_FIXED];
 
 struct day_case {
     uint32_t serial, day_of_year, gross;
@@ -49,18 +56,25 @@ uint64_t below(uint64_t n);                      /* 0 to n - 1 */
 bool chance(unsigned percent);
 uint64_t edgy(uint64_t lowest, uint64_t highest); /* often at or near an end */
 
-/* Facts of a valid grid, found apart from the implementations (cases_grid.c). */
+/* Facts of a valid grid, found apart from the implementations (cases_grid.c, cases_frost.c). */
 const uint32_t *case_entry(const struct grid_case *g, uint32_t cell);
 bool case_is_water(const struct grid_case *g, uint32_t cell);
 uint32_t case_capacity(const struct grid_case *g, uint32_t cell);
 /* The next cell, or CASE_LEAVES or CASE_STAYS. */
 enum { CASE_LEAVES = -1, CASE_STAYS = -2 };
 int32_t case_next(const struct grid_case *g, uint32_t cell);
+/* The frost index that a day of this mean temperature sets (M-106). */
+uint32_t case_frost(uint32_t index, int32_t mean);
 
-/* Valid cases (cases_grid.c, cases_day.c). */
+/* Valid cases (cases_grid.c, cases_day.c, cases_frost.c). A grid has the program's setpoints, as a
+ * text's has; make_setpoints draws others for the library's calls. */
 void make_grid(struct grid_case *g);
+void make_setpoints(struct grid_case *g);
 void make_state(const struct grid_case *g, struct state_case *s);
 void make_day(const struct grid_case *g, const struct state_case *s, struct day_case *d);
+
+/* Moves a setpoint to where the day will set the frost index, or to one beside it. */
+void aim_setpoint(struct grid_case *g, const struct state_case *s, const struct day_case *d);
 
 /* A dry day of one closed cell, aimed at the joints of rule 8: potential evapotranspiration
  * about k/256 of the capacity, often at the end of the table, where few soils tell its last two
@@ -72,7 +86,15 @@ void make_dry(struct grid_case *g, struct state_case *s, struct day_case *d);
 uint64_t damage_grid(struct grid_case *g);
 uint64_t damage_call(const struct grid_case *g, struct state_case *s, struct day_case *d);
 
-/* A text for the program: nearly valid or damaged (cases_text.c). Returns its length. */
+/* A wrong length for one of the first so many slices of one number a cell, or of those with a length
+ * of their own. A fresh state is lent 2 and 3 of them. */
+enum { FRESH_SLICES = 2, FRESH_FIXED = 3 };
+uint64_t damage_length_of(struct state_case *s, uint32_t cells, unsigned slices, unsigned fixed);
+
+/* A text for the program (cases_text.c): nearly valid or damaged; or a valid one of a winter whose
+ * frost comes and goes. Each returns its length. */
 size_t make_text(unsigned char *bytes);
+/* `hits` grows by the days whose frost index is a setpoint of the program or one beside it. */
+size_t make_winter(unsigned char *bytes, uint64_t *hits);
 
 #endif

@@ -63,14 +63,27 @@ static uint64_t damage_serial(struct state_case *s, struct day_case *d)
     return refusal(8, 0);
 }
 
+/* The rain memory, the frost index or both. */
+static void damage_past(struct state_case *s)
+{
+    static const uint32_t memories[] = {400001, 400002, 1u << 31, ~0u};
+    static const uint32_t indexes[] = {2500001, 2500002, 1u << 31, ~0u};
+    uint64_t which = below(3);
+
+    if (which != 0)
+        s->frost_index = ONE_OF(indexes);
+    if (which != 1) {
+        uint64_t day = below(BALANCE_MEMORY);
+        s->memory[day] = ONE_OF(memories);
+    }
+}
+
 static uint64_t damage_state(const struct grid_case *g, struct state_case *s)
 {
     uint32_t lowest = g->cells;
 
-    if (chance(25)) {
-        static const uint32_t memories[] = {400001, 400002, 1u << 31, ~0u};
-        uint64_t which = below(BALANCE_MEMORY);
-        s->memory[which] = ONE_OF(memories);
+    if (chance(40)) {
+        damage_past(s);
         if (chance(60))
             return refusal(9, g->cells);
     }
@@ -116,10 +129,23 @@ static uint64_t damage_snow(const struct grid_case *g, struct state_case *s, str
     return lowest == g->cells ? 0 : refusal(10, lowest);
 }
 
+uint64_t damage_length_of(struct state_case *s, uint32_t cells, unsigned slices, unsigned fixed)
+{
+    if (chance(50)) {
+        uint64_t which = below(slices);
+        s->len[which] = wrong_length(cells);
+    } else {
+        uint64_t which = below(fixed);
+        const size_t right = fixed_lengths[which], wrong[] = {0, right - 1, right + 1};
+        s->fixed_len[which] = ONE_OF(wrong);
+    }
+    return refusal(2, 0);
+}
+
 uint64_t damage_call(const struct grid_case *g, struct state_case *s, struct day_case *d)
 {
     switch (below(10)) {
-    case 0: s->len[below(CASE_SLICES)] = wrong_length(g->cells); return refusal(2, 0);
+    case 0: return damage_length_of(s, g->cells, CASE_SLICES, CASE_FIXED);
     case 1:
     case 2: return damage_day(d);
     case 3: return damage_serial(s, d);

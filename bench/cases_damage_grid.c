@@ -186,12 +186,26 @@ static uint64_t damage_season(struct grid_case *g)
     return refusal(6, 0);
 }
 
+static uint64_t damage_setpoints(struct grid_case *g)
+{
+    static const uint32_t bad[][2] = {{0, 2000001}, {2000000, 2000001}, {2000001, 2000001},
+                                      {2000001, 2000000}, {2000001, 0}, {1, 0}, {56000, 55999},
+                                      {83000, 56000}, {2000000, 1999999}, {56000, UINT32_MAX},
+                                      {UINT32_MAX, 83000}, {UINT32_MAX, UINT32_MAX},
+                                      {0, 1u << 31}};
+    size_t i = below(COUNT(bad));
+
+    g->first_setpoint = bad[i][0];
+    g->second_setpoint = bad[i][1];
+    return refusal(6, 0);
+}
+
 uint64_t damage_grid(struct grid_case *g)
 {
     /* The others need a grid and a table of sound sizes; this may be a second damage. */
     if (g->width * g->height != g->cells || g->covers_len < BALANCE_ENTRY)
-        return chance(50) ? damage_cell(g) : damage_season(g);
-    switch (below(8)) {
+        return chance(50) ? damage_cell(g) : chance(50) ? damage_season(g) : damage_setpoints(g);
+    switch (below(9)) {
     case 0: return damage_size(g);
     case 1: return damage_length(g);
     case 2:
@@ -199,6 +213,7 @@ uint64_t damage_grid(struct grid_case *g)
     case 4: return damage_cell(g);
     case 5:
     case 6: return damage_ring(g);
+    case 7: return damage_setpoints(g);
     default: return damage_season(g);
     }
 }

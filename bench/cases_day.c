@@ -21,6 +21,8 @@ static void make_memory(uint32_t *memory)
     memory[b] = swap;
 }
 
+const size_t fixed_lengths[CASE_FIXED] = {BALANCE_MEMORY, 1, 1, BALANCE_TOTALS};
+
 void make_state(const struct grid_case *g, struct state_case *s)
 {
     unsigned full = (unsigned)below(100), bare = (unsigned)below(100);
@@ -33,8 +35,11 @@ void make_state(const struct grid_case *g, struct state_case *s)
     }
     make_memory(s->memory);
     s->last_serial = chance(20) ? BALANCE_NO_SERIAL : edgy32(0, 9999980);
+    s->frost_index = make_frost_index(g);
     for (int i = 0; i < CASE_SLICES; i++)
         s->len[i] = g->cells;
+    for (int i = 0; i < CASE_FIXED; i++)
+        s->fixed_len[i] = fixed_lengths[i];
 }
 
 static void make_temperatures(struct day_case *d)

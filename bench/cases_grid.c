@@ -1,5 +1,6 @@
 /* Valid grids, and the facts of a grid. */
 #include "cases_parts.h"
+#include "text.h"
 
 #include <stdlib.h>
 #include <string.h>
@@ -249,5 +250,7 @@ void make_grid(struct grid_case *g)
     make_flow(g);
     g->first = edgy32(1, 366);
     g->last = edgy32(g->first, 366);
+    g->first_setpoint = TEXT_FIRST_SETPOINT;
+    g->second_setpoint = TEXT_SECOND_SETPOINT;
     g->direction_len = g->cover_len = g->group_len = g->water_len = g->cells;
 }

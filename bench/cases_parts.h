@@ -18,6 +18,12 @@ uint64_t between(uint64_t lowest, uint64_t highest);
 int64_t between_signed(int64_t lowest, int64_t highest);
 uint32_t edgy32(uint32_t lowest, uint32_t highest);
 
+/* Limits of the setpoints and of the frost index. */
+enum { MOST_SETPOINT = 2000000, MOST_FROST_INDEX = 2500000 };
+
+/* An index: none, one that a day may take below a setpoint, or any. */
+uint32_t make_frost_index(const struct grid_case *g);
+
 /* The eight directions as steps, apart from how the implementations have them. */
 struct step {
     uint32_t number;

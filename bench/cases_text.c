@@ -1,5 +1,6 @@
 /* Texts for the program, nearly valid or damaged. */
 #include "cases_parts.h"
+#include "text.h"
 
 #include <assert.h>
 #include <stdio.h>
@@ -40,6 +41,17 @@ static void list_grid(struct listing *l, const struct grid_case *g)
     l->days_at = l->count;
 }
 
+static void list_day(struct listing *l, const struct day_case *d)
+{
+    add(l, d->serial);
+    add(l, d->day_of_year);
+    add(l, d->gross);
+    add(l, d->minimum);
+    add(l, d->mean);
+    add(l, d->maximum);
+    add(l, d->potential);
+}
+
 static void list_days(struct listing *l, const struct grid_case *g)
 {
     static struct state_case s;
@@ -58,14 +70,69 @@ static void list_days(struct listing *l, const struct grid_case *g)
             d.minimum = d.mean = -10 - (int32_t)below(900);
             d.maximum = d.mean + (int32_t)below(330);
         }
-        add(l, d.serial);
-        add(l, d.day_of_year);
-        add(l, d.gross);
-        add(l, d.minimum);
-        add(l, d.mean);
-        add(l, d.maximum);
-        add(l, d.potential);
+        list_day(l, &d);
         s.last_serial = d.serial;
+    }
+}
+
+/* The mean temperature that brings the index from where it is to the target, or nearest below it:
+ * 18 tenths of a degree Fahrenheit are a Celsius degree. */
+static int32_t mean_towards(uint32_t index, uint32_t target)
+{
+    int64_t missing = (int64_t)target - case_frost(index, 320);
+    int64_t mean = 320 - (18 * missing - (missing < 0 ? 999 : 0)) / 1000;
+
+    return (int32_t)(mean < -1000 ? -1000 : mean > 1500 ? 1500 : mean);
+}
+
+/* Each setpoint of the program, one below it and one above. */
+static const uint32_t targets[] = {
+    TEXT_FIRST_SETPOINT - 1,  TEXT_FIRST_SETPOINT,  TEXT_FIRST_SETPOINT + 1,
+    TEXT_SECOND_SETPOINT - 1, TEXT_SECOND_SETPOINT, TEXT_SECOND_SETPOINT + 1,
+};
+
+static bool is_target(uint32_t index)
+{
+    for (size_t i = 0; i < COUNT(targets); i++)
+        if (targets[i] == index)
+            return true;
+    return false;
+}
+
+/* A winter day's mean temperature: the index goes anywhere, or to a target where a day can bring it
+ * to one. */
+static int32_t winter_mean(uint32_t index)
+{
+    size_t start = below(COUNT(targets));
+    int32_t mean = (int32_t)between_signed(-300, 600);
+
+    for (size_t i = 0; i < COUNT(targets) && chance(90); i++) {
+        uint32_t target = targets[(start + i) % COUNT(targets)];
+        mean = mean_towards(index, target);
+        if (case_frost(index, mean) == target)
+            break;
+    }
+    return mean;
+}
+
+static void list_winter(struct listing *l, const struct grid_case *g, uint64_t *hits)
+{
+    static struct state_case s;
+    struct day_case d;
+
+    s.last_serial = BALANCE_NO_SERIAL;
+    s.frost_index = 0;
+    for (uint64_t days = between(5, 40); days > 0; days--) {
+        make_day(g, &s, &d);
+        if (chance(70)) /* so little that condition I stays likely */
+            d.gross = chance(50) ? 0 : (uint32_t)between(0, 5000);
+        d.mean = winter_mean(s.frost_index);
+        d.minimum = d.mean - (int32_t)below(1 + (uint64_t)(d.mean + 1000) / 4);
+        d.maximum = d.mean + (int32_t)below(1 + (uint64_t)(1500 - d.mean) / 4);
+        list_day(l, &d);
+        s.last_serial = d.serial;
+        s.frost_index = case_frost(s.frost_index, d.mean);
+        *hits += is_target(s.frost_index);
     }
 }
 
@@ -197,4 +264,15 @@ size_t make_text(unsigned char *bytes)
         memset(bytes, ' ', n = below(20)); /* nothing but blanks */
     }
     return n;
+}
+
+size_t make_winter(unsigned char *bytes, uint64_t *hits)
+{
+    static struct grid_case g;
+    static struct listing l;
+
+    make_grid(&g);
+    list_grid(&l, &g);
+    list_winter(&l, &g, hits);
+    return put_listing(&l, bytes, false);
 }

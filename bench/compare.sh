@@ -1,12 +1,12 @@
 #!/bin/sh
-# Compares the proved library with document 01 written again in C, plain and fast.
+# Compares the proved library with document 01 and M-106 of document 02 written again in C, plain and fast.
 #
 #     ./compare.sh [CASES [TEXTS [SEED]]]
 #
-# Builds all of them for this machine, checks the paper's figures and the worked example, and runs the implementations side by
-# side on random and damaged cases: every returned number, store, result cell, total, memory and serial. A difference prints its
-# seed and fails. It proves the library first where it is not proved yet, which takes minutes. After `rt ci` or `rt check` only
-# `clib` is proved once more, on its way to the archive, in under a minute; the rest takes seconds.
+# Builds all of them for this machine, checks the papers' figures and the worked example, and runs the implementations side by
+# side on random and damaged cases: every returned number, store, result cell, total, memory, serial and frost index. A
+# difference prints its seed and fails. It proves the library first where it is not proved yet, which takes minutes. After
+# `rt ci` or `rt check` only `clib` is proved once more, on its way to the archive, in under a minute; the rest takes seconds.
 #
 # PROVED=no leaves the proved library out. Another implementation of balance.h, with the prefix other_, stands in for it by
 #     THIRD=other THIRD_TEXT=other THIRD_OBJECTS="path/other.o ..." ./compare.sh
@@ -32,7 +32,7 @@ OBJECTS=${THIRD_OBJECTS:-}
 $CC $WARN -O2 make_retention.c -o build/make_retention
 build/make_retention | cmp - retention.h
 
-for file in $PLAIN plain_text $CASES $FUZZ figures; do
+for file in $PLAIN plain_text $CASES $FUZZ $FIGURES; do
     $CC $WARN -O2 -c $file.c -o build/$file.o
 done
 for file in fast fast_text; do
@@ -48,8 +48,8 @@ objects() { # NAME..
 LIBRARY="$(objects $PLAIN plain_text fast fast_text table) $OBJECTS"
 # shellcheck disable=SC2046,SC2086
 $CC $(objects $FUZZ $CASES) $LIBRARY -o build/fuzz
-# shellcheck disable=SC2086
-$CC build/figures.o $LIBRARY -o build/figures
+# shellcheck disable=SC2046,SC2086
+$CC $(objects $FIGURES) $LIBRARY -o build/figures
 # shellcheck disable=SC2046,SC2086
 $CC $WARN -O2 plain_balance.c $(objects $PLAIN plain_text) -o build/plain_balance
 

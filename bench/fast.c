@@ -1,4 +1,4 @@
-/* Document 01 for speed, with the same interface as plain.c.
+/* Document 01 and M-106 for speed, with the same interface as plain.c.
  *
  * What it does differently:
  * - a 256-entry index from cover code to table entry;
@@ -10,12 +10,10 @@
  * - rule 6 in 64 bits: with K = 100,000(100 - c) and b = a + K, a^2 / b = b - 2K + K^2 / b;
  * - one pass over the cells in flow order does all the rules and sums the totals.
  *
- * The survey, tests 1 and 3 to 6, and the rules are headers, fast_survey.h and fast_rules.h: to the compiler all of it is one
- * file.
+ * The survey, tests 1 and 3 to 6, and the rules are headers, fast_survey.h and fast_rules.h: to the
+ * compiler all of it is one file.
  */
 #include "fast_rules.h"
-
-#include <assert.h>
 
 uint64_t fast_check(BALANCE_SETUP_PARAMETERS)
 {
@@ -26,17 +24,19 @@ uint64_t fast_check(BALANCE_SETUP_PARAMETERS)
     const size_t cells = width * height;
     if (direction_len != cells || cover_len != cells || group_len != cells || water_len != cells)
         return REFUSE(2, 0);
-    return check_setup(width, height, first, last, covers, covers_len, direction, cover, group,
-                       water, &r);
+    return check_setup(width, height, first, last, first_setpoint, second_setpoint, covers,
+                       covers_len, direction, cover, group, water, &r);
 }
 
 uint64_t fast_fresh(BALANCE_SETUP_PARAMETERS, BALANCE_STATE_PARAMETERS)
 {
     struct routes r;
 
-    assert(memory_len == BALANCE_MEMORY && last_serial_len == 1);
+    if (memory_len != BALANCE_MEMORY || last_serial_len != 1 || frost_index_len != 1)
+        return REFUSE(2, 0);
     memset(memory, 0, BALANCE_MEMORY * sizeof memory[0]);
     last_serial[0] = BALANCE_NO_SERIAL;
+    frost_index[0] = 0;
 
     if (bad_size(width, height))
         return REFUSE(1, 0);
@@ -44,8 +44,8 @@ uint64_t fast_fresh(BALANCE_SETUP_PARAMETERS, BALANCE_STATE_PARAMETERS)
     if (direction_len != cells || cover_len != cells || group_len != cells ||
         water_len != cells || soil_len != cells || snow_len != cells)
         return REFUSE(2, 0);
-    const uint64_t no = check_setup(width, height, first, last, covers, covers_len, direction,
-                                    cover, group, water, &r);
+    const uint64_t no = check_setup(width, height, first, last, first_setpoint, second_setpoint,
+                                    covers, covers_len, direction, cover, group, water, &r);
     if (no != 0)
         return no;
 
@@ -74,8 +74,9 @@ uint64_t fast_day(BALANCE_SETUP_PARAMETERS, BALANCE_STATE_PARAMETERS,
     struct plot plots[PLOTS];
     uint32_t capacity[CELLS], inflow[TARGETS];
 
-    assert(memory_len == BALANCE_MEMORY && last_serial_len == 1);
-    assert(totals_len == BALANCE_TOTALS);
+    if (memory_len != BALANCE_MEMORY || last_serial_len != 1 || frost_index_len != 1 ||
+        totals_len != BALANCE_TOTALS)
+        return REFUSE(2, 0);
     memset(totals, 0, BALANCE_TOTALS * sizeof totals[0]);
 
     if (bad_size(width, height))
@@ -86,8 +87,8 @@ uint64_t fast_day(BALANCE_SETUP_PARAMETERS, BALANCE_STATE_PARAMETERS,
         intercepted_len != cells || outflow_len != cells || evapotranspired_len != cells ||
         recharged_len != cells || rejected_len != cells)
         return REFUSE(2, 0);
-    const uint64_t no = check_setup(width, height, first, last, covers, covers_len, direction,
-                                    cover, group, water, &r);
+    const uint64_t no = check_setup(width, height, first, last, first_setpoint, second_setpoint,
+                                    covers, covers_len, direction, cover, group, water, &r);
     if (no != 0)
         return no;
     if (bad_day(serial, day_of_year, gross, minimum, mean, maximum, potential))
@@ -100,14 +101,13 @@ uint64_t fast_day(BALANCE_SETUP_PARAMETERS, BALANCE_STATE_PARAMETERS,
     const bool snows = 3 * mean - (maximum - minimum) <= 960;
     const uint32_t most_melt = maximum > 320 ? 295 * (uint32_t)(maximum - 320) / 9 : 0;
     uint64_t sum = 0;
-    bool bad_memory = false;
+    bool bad_past = frost_index[0] > MAX_FROST;
     for (int i = 0; i < BALANCE_MEMORY; i++) {
         sum += memory[i];
-        bad_memory |= memory[i] > MAX_GROSS;
+        bad_past |= memory[i] > MAX_GROSS;
     }
-    const int condition = sum < (growing ? 14000 : 5000)    ? 1
-                          : sum > (growing ? 21000 : 11000) ? 3
-                                                            : 2;
+    const uint32_t frost = frost_after(frost_index[0], mean);
+    const int condition = condition_of(sum, growing, frost, first_setpoint, second_setpoint);
     plan_plots(covers, covers_len, growing, condition, snows, gross, plots);
 
     /* Tests 9 and 10, before anything is written. Any 9 wins over a 10. The last serial has
@@ -121,7 +121,7 @@ uint64_t fast_day(BALANCE_SETUP_PARAMETERS, BALANCE_STATE_PARAMETERS,
         if (snow[i] + p->snowfall > MAX_SNOW && buried == cells)
             buried = i;
     }
-    if (bad_memory)
+    if (bad_past)
         return REFUSE(9, cells);
     if (buried != cells)
         return REFUSE(10, buried);
@@ -195,5 +195,6 @@ uint64_t fast_day(BALANCE_SETUP_PARAMETERS, BALANCE_STATE_PARAMETERS,
     memmove(memory, memory + 1, (BALANCE_MEMORY - 1) * sizeof memory[0]);
     memory[BALANCE_MEMORY - 1] = gross;
     last_serial[0] = serial;
+    frost_index[0] = frost;
     return 0;
 }

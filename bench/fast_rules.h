@@ -1,13 +1,32 @@
-/* fast.c's rules: what cells of one cover and group share on a day, and the arithmetic of one cell.
- * Static functions, for fast.c alone. */
+/* fast.c's rules: the day's condition, what cells of one cover and group share on a day, and the
+ * arithmetic of one cell. Static functions, for fast.c alone. */
 #ifndef FAST_RULES_H
 #define FAST_RULES_H
 
 #include "fast_survey.h"
 #include "retention.h"
 
-/* Limits of a day. */
-enum { MAX_GROSS = 400000, MAX_SNOW = 10000000, MAX_SERIAL = 9999999 };
+/* Limits of a day and of the state. */
+enum { MAX_GROSS = 400000, MAX_SNOW = 10000000, MAX_SERIAL = 9999999, MAX_FROST = 2500000 };
+
+/* M-106's frost index after a day: all in unsigned numbers, since the quotient is shifted up by
+ * 73,334 (18 times that is 1,320,012), the most that a day's frost can add. */
+static uint32_t frost_after(uint32_t index, int32_t mean)
+{
+    const uint32_t most = 97 * index / 100 + 73334;
+    const uint32_t thaw = (uint32_t)(1000 * (mean + 1000) + 12) / 18;
+
+    return most > thaw ? most - thaw : 0;
+}
+
+/* Rule 5's condition with M-106's: what the day counts as, 1 to 3. */
+static int condition_of(uint64_t sum, bool growing, uint32_t frost, uint32_t first_setpoint,
+                        uint32_t second_setpoint)
+{
+    if (frost >= second_setpoint || sum > (growing ? 21000 : 11000))
+        return 3;
+    return frost < first_setpoint && sum < (growing ? 14000 : 5000) ? 1 : 2;
+}
 
 /* All that cells of one cover and group share on a day. Open water has zeros here, so that
  * it passes tests 9 and 10 exactly when its stores are 0. */

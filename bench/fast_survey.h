@@ -124,6 +124,7 @@ static uint64_t order_cells(uint32_t cells, struct routes *r, uint16_t *waiting)
 
 /* Tests 3 to 6. */
 static uint64_t check_setup(uint32_t width, uint32_t height, uint32_t first, uint32_t last,
+                            uint32_t first_setpoint, uint32_t second_setpoint,
                             const uint32_t *covers, size_t covers_len,
                             const uint32_t *direction, const uint32_t *cover,
                             const uint32_t *group, const uint32_t *water, struct routes *r)
@@ -142,7 +143,9 @@ static uint64_t check_setup(uint32_t width, uint32_t height, uint32_t first, uin
         return no;
     if ((no = order_cells(cells, r, waiting)) != 0)
         return no;
-    return first == 0 || first > last || last > 366 ? REFUSE(6, 0) : 0;
+    const bool bad = first == 0 || first > last || last > 366 || first_setpoint > second_setpoint ||
+                     second_setpoint > 2000000;
+    return bad ? REFUSE(6, 0) : 0;
 }
 
 /* Test 1. */

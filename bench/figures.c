@@ -1,9 +1,8 @@
-/* Document 01's worked example and its "Figures to check against".
+/* Document 01's worked example and its "Figures to check against", and M-106's (figures_frost.c).
  *
  * Every figure is checked of the plain C's single rules, and again of every implementation in the
  * table through whole days of a one-cell grid. Prints each figure; fails if any differs. */
-#include "plain.h"
-#include "table.h"
+#include "figures.h"
 
 #include <inttypes.h>
 #include <stdio.h>
@@ -11,7 +10,7 @@
 
 static int failures;
 
-static void figure(const char *who, const char *what, int64_t found, int64_t wanted)
+void figure(const char *who, const char *what, int64_t found, int64_t wanted)
 {
     printf("%-5s %-6s %-48s %9" PRId64, found == wanted ? "ok" : "WRONG", who, what, found);
     if (found != wanted) {
@@ -74,18 +73,7 @@ static void rules(void)
 
 /* ---------------------------------------------------------------- days of one cell */
 
-/* One cell that flows over the edge. No interception; recharge as large as it may be. */
-struct one_cell {
-    uint32_t curve, root, water; /* table's number; hundredths of a foot; of an inch a foot */
-    uint32_t soil, snow, five_day_sum;
-    uint32_t gross;
-    int32_t minimum, mean, maximum;
-    uint32_t potential;
-    /* what comes back */
-    uint32_t outflow, evapotranspired;
-};
-
-static uint64_t run(const struct implementation *x, struct one_cell *c)
+uint64_t run(const struct implementation *x, struct one_cell *c)
 {
     const uint32_t n = c->curve, r = c->root;
     const uint32_t covers[16] = {3, 0, n, n, n, n, 100000, 100000, 100000, 100000, 0, 0, r, r, r, r};
@@ -94,10 +82,11 @@ static uint64_t run(const struct implementation *x, struct one_cell *c)
     uint32_t intercepted[1], recharged[1], rejected[1];
     uint64_t totals[7];
 
-    return x->day(1, 1, 100, 200, covers, 16, direction, 1, cover, 1, group, 1, water, 1,
-                  &c->soil, 1, &c->snow, 1, memory, 5, last, 1, intercepted, 1, &c->outflow, 1,
-                  &c->evapotranspired, 1, recharged, 1, rejected, 1, totals, 7, 1, 150, c->gross,
-                  c->minimum, c->mean, c->maximum, c->potential);
+    return x->day(1, 1, 100, 200, TEXT_FIRST_SETPOINT, TEXT_SECOND_SETPOINT, covers, 16, direction,
+                  1, cover, 1, group, 1, water, 1, &c->soil, 1, &c->snow, 1, memory, 5, last, 1,
+                  &c->frost_index, 1, intercepted, 1, &c->outflow, 1, &c->evapotranspired, 1,
+                  recharged, 1, rejected, 1, totals, 7, 1, 150, c->gross, c->minimum, c->mean,
+                  c->maximum, c->potential);
 }
 
 /* The outflow of so much rain on a warm growing day. 14,000 to 21,000 is condition II. */
@@ -197,8 +186,11 @@ static void example(const struct text_implementation *x)
 int main(void)
 {
     rules();
-    for (size_t i = 0; i < implementations_count; i++)
+    frost_rules();
+    for (size_t i = 0; i < implementations_count; i++) {
         days(&implementations[i]);
+        frost_days(&implementations[i]);
+    }
     for (size_t i = 0; i < texts_count; i++)
         example(&texts[i]);
     printf("%s\n", failures == 0 ? "every figure is the paper's" : "FIGURES DIFFER");

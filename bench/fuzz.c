@@ -1,12 +1,13 @@
 /* Compares all implementations of table.c on seeded random cases (cases.h).
  *
  *     fuzz [CASES [TEXTS [SEED]]]       compare; prints how often each refusal was reached
- *     fuzz case SEED | fuzz text SEED   the one case that a failure named
+ *     fuzz case SEED | fuzz text SEED | fuzz winter SEED
+ *                                       the one case that a failure named
  *     fuzz vectors DIR COUNT SEED       writes COUNT texts and the first text function's outputs
  *                                       to DIR/NNNNN.in and DIR/NNNNN.out
  *
- * After each call every returned number, store, result cell, total, memory and serial is
- * compared, as well as the numbers past the ends of the slices; a refused call must have left
+ * After each call every returned number, store, result cell, total, memory, serial and frost index
+ * is compared, as well as the numbers past the ends of the slices; a refused call must have left
  * all alone. Where the damage done foretells the refusal, it must be that one. Accepted days are
  * held against the paper's account, cell by cell and in the totals, and pairs of runs against
  * the office's demand 3. The first difference prints its seed and ends the program with 1. */
@@ -19,14 +20,17 @@
 
 /* ---------------------------------------------------------------- runs */
 
-/* A run of some days of a valid grid, with a damaged call beside some of them. */
-static void run_days(const struct grid_case *g, struct state_case *s)
+/* A run of some days of a valid grid, with a damaged call beside some of them; on some a setpoint
+ * moves to the frost index that the day will set. */
+static void run_days(struct grid_case *g, struct state_case *s)
 {
     static struct state_case spoilt;
     struct day_case day, spoilt_day;
 
     for (uint64_t days = 1 + below(7); days > 0; days--) {
         make_day(g, s, &day);
+        if (chance(40))
+            aim_setpoint(g, s, &day);
         if (chance(50)) {
             spoilt = *s;
             spoilt_day = day;
@@ -60,6 +64,7 @@ static void run_case(uint64_t seed)
         return;
     }
     make_grid(&g);
+    make_setpoints(&g);
     make_state(&g, &s);
     all_check(&g, 0);
 
@@ -89,11 +94,9 @@ static void run_case(uint64_t seed)
     }
 
     if (chance(10)) { /* refusal 2 of the fresh state */
-        size_t was = s.len[SOIL];
-        int k = chance(50) ? SOIL : SNOW;
-        s.len[k] = chance(50) ? was + 1 : was - 1;
-        all_fresh(&g, &s, (uint64_t)2 << 32);
-        s.len[k] = was;
+        static struct state_case lent;
+        lent = s;
+        all_fresh(&g, &lent, damage_length_of(&lent, g.cells, FRESH_SLICES, FRESH_FIXED));
     }
     all_fresh(&g, &s, 0);
     if (chance(30))
@@ -130,6 +133,9 @@ int main(int argc, char **argv)
     } else if (argc == 3 && strcmp(argv[1], "text") == 0) {
         run_text(argument(argc, argv, 2, 0));
         show_text();
+    } else if (argc == 3 && strcmp(argv[1], "winter") == 0) {
+        run_winter(argument(argc, argv, 2, 0));
+        show_text();
     } else if (argc == 5 && strcmp(argv[1], "vectors") == 0) {
         write_vectors(argv[2], argument(argc, argv, 3, 0), argument(argc, argv, 4, 0));
     } else {
@@ -141,11 +147,18 @@ int main(int argc, char **argv)
         double middle = seconds();
         for (uint64_t i = 0; i < text_cases; i++)
             run_text(seed + i);
+        for (uint64_t i = 0; i < text_cases / 10; i++)
+            run_winter(seed + i);
         report(cases, text_cases, seed, middle - start, seconds() - middle);
         reached_often("check", tally.check, 6, cases);
         reached_often("fresh", tally.fresh, 6, cases);
         reached_often("day", tally.day, 10, cases);
         reached_often("text", tally.text, 11, text_cases);
+        for (int i = 0; i < CASE_FIXED; i++)
+            enough("a slice with a length of its own had another", tally.fixed[i], cases);
+        frost_often(cases);
+        enough("a pair of runs had a day in frost", tally.frosty_pair_days, cases);
+        enough("a text's frost index was near a setpoint", tally.winter_hits, text_cases);
     }
     return 0;
 }

@@ -11,9 +11,10 @@ enum { MOST_IMPLEMENTATIONS = 8, REFUSALS = 12, GUARD = 1 };
 
 struct tally {
     uint64_t check[REFUSALS], fresh[REFUSALS], day[REFUSALS], text[REFUSALS];
-    uint64_t cell_days, pairs, pair_days, wetter_figures, text_days;
+    uint64_t cell_days, pairs, pair_days, frosty_pair_days, wetter_figures, text_days, winters, winter_hits;
     uint32_t most_outflow;
     uint64_t foretold;
+    uint64_t fixed[CASE_FIXED]; /* calls lent memory, last serial, frost index or totals of another length */
 };
 extern struct tally tally;
 
@@ -28,7 +29,10 @@ void count_refusal(uint64_t *counts, uint64_t returned);
 /* The counts of a whole run, in print. */
 void report(uint64_t cases, uint64_t text_cases, uint64_t seed, double case_time, double text_time);
 
-/* Ends the program with 1 where a call reached one of the refusals 1 to `last` too seldom. */
+/* Ends the program with 1 where something was reached too seldom for so many cases. */
+void enough(const char *what, uint64_t count, uint64_t cases);
+
+/* The same of each of the refusals 1 to `last` of a call. */
 void reached_often(const char *call, const uint64_t *counts, int last, uint64_t cases);
 
 /* ---------------------------------------------------------------- what a call may write, and the calls: fuzz_calls.c */
@@ -37,7 +41,7 @@ void reached_often(const char *call, const uint64_t *counts, int last, uint64_t 
  * no call may touch. */
 struct world {
     uint32_t slice[CASE_SLICES][CASE_ROOM]; /* soil, snow, and the five results */
-    uint32_t memory[BALANCE_MEMORY + GUARD], last_serial[1 + GUARD];
+    uint32_t memory[BALANCE_MEMORY + GUARD], last_serial[1 + GUARD], frost_index[1 + GUARD];
     uint64_t totals[BALANCE_TOTALS + GUARD];
 };
 
@@ -67,16 +71,30 @@ void check_account(const struct grid_case *g, const struct day_case *d);
 /* Takes the state over that came back in worlds[0]. */
 void take_state(const struct grid_case *g, struct state_case *s);
 
+/* ---------------------------------------------------------------- frozen ground: fuzz_frost.c */
+
+/* Holds the frost index of an accepted day, in worlds[0], to M-106, and counts what the frost did. */
+void check_frost(const struct grid_case *g, const struct day_case *d);
+
+/* Counts the refusals that frost alone explains: 6 by the setpoints, 9 by the index. */
+void count_setpoints(const struct grid_case *g, uint64_t returned);
+void count_index(const struct grid_case *g, const struct state_case *s, uint64_t returned);
+
+void report_frost(void);
+void frost_often(uint64_t cases);
+
 /* ---------------------------------------------------------------- pairs of runs: fuzz_pairs.c */
 
-/* Demand 3: of two runs of the same setup and days, the second with at least as much soil and
- * snow in every cell, the second has no figure that is smaller, and the extra at the start is
- * the extra evapotranspired, recharged, rejected, gone and still stored. */
-void run_pair(const struct grid_case *g, struct state_case *less, unsigned wetter);
+/* Demand 3: of two runs of the same setup, days and frost index at the start, the second with at
+ * least as much soil and snow in every cell, the second has no figure that is smaller, and the
+ * extra at the start is the extra evapotranspired, recharged, rejected, gone and still stored. A
+ * setpoint is often where the first day sets the index. */
+void run_pair(struct grid_case *g, struct state_case *less, unsigned wetter);
 
 /* ---------------------------------------------------------------- texts: fuzz_text.c */
 
 void run_text(uint64_t seed);
+void run_winter(uint64_t seed);
 void show_text(void); /* the output of the last one */
 void write_vectors(const char *dir, uint64_t count, uint64_t seed);
 

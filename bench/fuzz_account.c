@@ -54,6 +54,7 @@ void check_account(const struct grid_case *g, const struct day_case *d)
             fail("memory %d is not the next", i);
     if (w->last_serial[0] != d->serial)
         fail("the last serial is not the day's");
+    check_frost(g, d);
     tally.cell_days += g->cells;
 }
 
@@ -63,4 +64,5 @@ void take_state(const struct grid_case *g, struct state_case *s)
     memcpy(s->snow, worlds[0].slice[SNOW], g->cells * sizeof s->snow[0]);
     memcpy(s->memory, worlds[0].memory, sizeof s->memory);
     s->last_serial = worlds[0].last_serial[0];
+    s->frost_index = worlds[0].frost_index[0];
 }

@@ -28,6 +28,8 @@ static void set_before(const struct grid_case *g, const struct state_case *s)
     before.memory[BALANCE_MEMORY] = 0xfeed0001;
     before.last_serial[0] = s->last_serial;
     before.last_serial[1] = 0xfeed0002;
+    before.frost_index[0] = s->frost_index;
+    before.frost_index[1] = 0xfeed0004;
     for (int i = 0; i < BALANCE_TOTALS + GUARD; i++)
         before.totals[i] = 0xfeedfeedfeed0003;
 }
@@ -38,6 +40,7 @@ void copy_world(struct world *to, const struct world *from, uint32_t reach)
         memcpy(to->slice[k], from->slice[k], reach * sizeof(uint32_t));
     memcpy(to->memory, from->memory, sizeof to->memory);
     memcpy(to->last_serial, from->last_serial, sizeof to->last_serial);
+    memcpy(to->frost_index, from->frost_index, sizeof to->frost_index);
     memcpy(to->totals, from->totals, sizeof to->totals);
 }
 
@@ -55,10 +58,14 @@ static void same_world(const char *call, const char *who, const struct world *fo
         if (found->memory[i] != wanted->memory[i])
             fail("%s: memory %d: %s has %" PRIu32 ", %s %" PRIu32, call, i, who,
                  found->memory[i], what, wanted->memory[i]);
-    for (int i = 0; i < 1 + GUARD; i++)
+    for (int i = 0; i < 1 + GUARD; i++) {
         if (found->last_serial[i] != wanted->last_serial[i])
             fail("%s: last serial: %s has %" PRIu32 ", %s %" PRIu32, call, who,
                  found->last_serial[i], what, wanted->last_serial[i]);
+        if (found->frost_index[i] != wanted->frost_index[i])
+            fail("%s: frost index: %s has %" PRIu32 ", %s %" PRIu32, call, who,
+                 found->frost_index[i], what, wanted->frost_index[i]);
+    }
     for (int i = 0; i < BALANCE_TOTALS + GUARD; i++)
         if (found->totals[i] != wanted->totals[i])
             fail("%s: total %d: %s has %" PRIu64 ", %s %" PRIu64, call, i, who, found->totals[i],
@@ -85,16 +92,32 @@ static void same_returned(const char *call, const uint64_t *returned, uint64_t f
 /* ---------------------------------------------------------------- the calls, by all */
 
 #define SETUP_OF(g)                                                                           \
-    (g)->width, (g)->height, (g)->first, (g)->last, (g)->covers, (g)->covers_len,             \
-        (g)->direction, (g)->direction_len, (g)->cover, (g)->cover_len, (g)->group,           \
-        (g)->group_len, (g)->water, (g)->water_len
-#define STATE_OF(w, len)                                                                      \
-    (w)->slice[SOIL], (len)[SOIL], (w)->slice[SNOW], (len)[SNOW], (w)->memory, BALANCE_MEMORY, \
-        (w)->last_serial, 1
-#define RESULTS_OF(w, len)                                                                    \
-    (w)->slice[INTERCEPTED], (len)[INTERCEPTED], (w)->slice[OUTFLOW], (len)[OUTFLOW],         \
-        (w)->slice[EVAPOTRANSPIRED], (len)[EVAPOTRANSPIRED], (w)->slice[RECHARGED],           \
-        (len)[RECHARGED], (w)->slice[REJECTED], (len)[REJECTED], (w)->totals, BALANCE_TOTALS
+    (g)->width, (g)->height, (g)->first, (g)->last, (g)->first_setpoint, (g)->second_setpoint, \
+        (g)->covers, (g)->covers_len, (g)->direction, (g)->direction_len, (g)->cover,         \
+        (g)->cover_len, (g)->group, (g)->group_len, (g)->water, (g)->water_len
+#define STATE_OF(w, s)                                                                        \
+    (w)->slice[SOIL], (s)->len[SOIL], (w)->slice[SNOW], (s)->len[SNOW], (w)->memory,          \
+        (s)->fixed_len[F_MEMORY], (w)->last_serial, (s)->fixed_len[F_LAST_SERIAL],            \
+        (w)->frost_index, (s)->fixed_len[F_FROST_INDEX]
+#define RESULTS_OF(w, s)                                                                      \
+    (w)->slice[INTERCEPTED], (s)->len[INTERCEPTED], (w)->slice[OUTFLOW], (s)->len[OUTFLOW],   \
+        (w)->slice[EVAPOTRANSPIRED], (s)->len[EVAPOTRANSPIRED], (w)->slice[RECHARGED],        \
+        (s)->len[RECHARGED], (w)->slice[REJECTED], (s)->len[REJECTED], (w)->totals,           \
+        (s)->fixed_len[F_TOTALS]
+
+/* Have the first so many slices with a length of their own that length? If not, refusal 2 is
+ * foretold, before all else, and nothing may be written. */
+static bool right_lengths(const struct state_case *s, int count, uint64_t *foretold)
+{
+    for (int i = 0; i < count; i++) {
+        if (s->fixed_len[i] == fixed_lengths[i])
+            continue;
+        tally.fixed[i]++;
+        *foretold = (uint64_t)2 << 32;
+        return false;
+    }
+    return true;
+}
 
 uint64_t all_check(const struct grid_case *g, uint64_t foretold)
 {
@@ -104,6 +127,7 @@ uint64_t all_check(const struct grid_case *g, uint64_t foretold)
         returned[x] = implementations[x].check(SETUP_OF(g));
     same_returned("check", returned, foretold);
     count_refusal(tally.check, returned[0]);
+    count_setpoints(g, returned[0]);
     return returned[0];
 }
 
@@ -115,14 +139,17 @@ uint64_t all_fresh(const struct grid_case *g, const struct state_case *s, uint64
     set_before(g, s);
     for (size_t x = 0; x < implementations_count; x++) {
         copy_world(&worlds[x], &before, reach);
-        returned[x] = implementations[x].fresh(SETUP_OF(g), STATE_OF(&worlds[x], s->len));
+        returned[x] = implementations[x].fresh(SETUP_OF(g), STATE_OF(&worlds[x], s));
     }
+    bool right = right_lengths(s, FRESH_FIXED, &foretold);
     same_returned("fresh", returned, foretold);
     count_refusal(tally.fresh, returned[0]);
 
-    /* Refused or not, the memory is five zeros, the last serial none. */
-    memset(before.memory, 0, BALANCE_MEMORY * sizeof before.memory[0]);
-    before.last_serial[0] = BALANCE_NO_SERIAL;
+    if (right) { /* refused or not */
+        memset(before.memory, 0, BALANCE_MEMORY * sizeof before.memory[0]);
+        before.last_serial[0] = BALANCE_NO_SERIAL;
+        before.frost_index[0] = 0;
+    }
     if (returned[0] == 0) {
         for (uint32_t i = 0; i < g->cells; i++) {
             before.slice[SOIL][i] = case_capacity(g, i);
@@ -143,15 +170,18 @@ uint64_t all_day(const struct grid_case *g, const struct state_case *s, const st
     set_before(g, s);
     for (size_t x = 0; x < implementations_count; x++) {
         copy_world(&worlds[x], &before, reach);
-        returned[x] = implementations[x].day(SETUP_OF(g), STATE_OF(&worlds[x], s->len),
-                                             RESULTS_OF(&worlds[x], s->len), d->serial,
+        returned[x] = implementations[x].day(SETUP_OF(g), STATE_OF(&worlds[x], s),
+                                             RESULTS_OF(&worlds[x], s), d->serial,
                                              d->day_of_year, d->gross, d->minimum, d->mean,
                                              d->maximum, d->potential);
     }
+    bool right = right_lengths(s, CASE_FIXED, &foretold);
     same_returned("day", returned, foretold);
     count_refusal(tally.day, returned[0]);
+    count_index(g, s, returned[0]);
     if (returned[0] != 0) { /* all alone, but for zeros in the totals */
-        memset(before.totals, 0, BALANCE_TOTALS * sizeof before.totals[0]);
+        if (right)
+            memset(before.totals, 0, BALANCE_TOTALS * sizeof before.totals[0]);
         for (size_t x = 0; x < implementations_count; x++)
             same_world("refused day", implementations[x].name, &worlds[x], "it was lent", &before,
                        reach);

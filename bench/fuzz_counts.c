@@ -63,24 +63,39 @@ void report(uint64_t cases, uint64_t text_cases, uint64_t seed, double case_time
                i == 0 ? "  (0: accepted; places are the library's)" : "");
     }
     printf("\nreturns that were foretold and so: %" PRIu64 "\n", tally.foretold);
+    printf("refused for the length of the memory: %" PRIu64 ", the last serial: %" PRIu64 ", the frost index: %" PRIu64
+           ", the totals: %" PRIu64 "\n",
+           tally.fixed[F_MEMORY], tally.fixed[F_LAST_SERIAL], tally.fixed[F_FROST_INDEX], tally.fixed[F_TOTALS]);
     printf("cells of accepted days held against the account: %" PRIu64 "\n", tally.cell_days);
     printf("largest outflow seen: %" PRIu32 "\n", tally.most_outflow);
-    printf("pairs of runs: %" PRIu64 ", of %" PRIu64 " days, with %" PRIu64 " larger figures\n",
-           tally.pairs, tally.pair_days, tally.wetter_figures);
+    printf("pairs of runs: %" PRIu64 ", of %" PRIu64 " days, %" PRIu64 " of them at or above the first setpoint, with %" PRIu64
+           " larger figures\n",
+           tally.pairs, tally.pair_days, tally.frosty_pair_days, tally.wetter_figures);
+    report_frost();
+    printf("texts of winters besides: %" PRIu64 ", with %" PRIu64 " days whose frost index is a setpoint or one beside it\n",
+           tally.winters, tally.winter_hits);
     printf("day lines of texts: %" PRIu64 "\n", tally.text_days);
     printf("no difference\n");
 }
 
-/* A comparison says little of a refusal that it hardly reached. A text reaches neither 2 nor 9: it lends every slice at its
- * length, and starts fresh. */
+/* A comparison says little of what it hardly reached. */
+void enough(const char *what, uint64_t count, uint64_t cases)
+{
+    if (cases >= 1000 && count * 250 < cases) {
+        printf("TOO FEW: %s only %" PRIu64 " times\n", what, count);
+        exit(1);
+    }
+}
+
+/* A text reaches neither 2 nor 9: it lends every slice at its length, and starts fresh. */
 void reached_often(const char *call, const uint64_t *counts, int last, uint64_t cases)
 {
-    for (int i = 1; i <= last && cases >= 1000; i++) {
+    char what[60];
+
+    for (int i = 1; i <= last; i++) {
         if (counts == tally.text && (i == 2 || i == 9))
             continue;
-        if (counts[i] * 250 < cases) {
-            printf("TOO FEW: %s reached refusal %d only %" PRIu64 " times\n", call, i, counts[i]);
-            exit(1);
-        }
+        snprintf(what, sizeof what, "%s reached refusal %d", call, i);
+        enough(what, counts[i], cases);
     }
 }

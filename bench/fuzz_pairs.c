@@ -3,7 +3,7 @@
 
 #include <inttypes.h>
 
-void run_pair(const struct grid_case *g, struct state_case *less, unsigned wetter)
+void run_pair(struct grid_case *g, struct state_case *less, unsigned wetter)
 {
     static struct state_case more;
     static struct world first;
@@ -20,15 +20,21 @@ void run_pair(const struct grid_case *g, struct state_case *less, unsigned wette
         extra += (int64_t)more.soil[i] - less->soil[i] + more.snow[i] - less->snow[i];
     }
     tally.pairs++;
-    for (uint64_t days = 1 + below(5); days > 0; days--) {
+    uint64_t days = 1 + below(5);
+    for (uint64_t n = 0; n < days; n++) {
         make_day(g, less, &day);
+        if (n == 0 && chance(50))
+            aim_setpoint(g, less, &day);
         all_day(g, less, &day, 0);
         take_state(g, less);
         copy_world(&first, &worlds[0], reach_of(g));
         all_day(g, &more, &day, 0);
         take_state(g, &more);
         tally.pair_days++;
+        tally.frosty_pair_days += more.frost_index >= g->first_setpoint;
 
+        if (worlds[0].frost_index[0] != first.frost_index[0])
+            fail("demand 3: the frost indexes differ, though snow does not insulate");
         for (int k = 0; k < CASE_SLICES; k++)
             for (uint32_t i = 0; i < g->cells; i++) {
                 if (worlds[0].slice[k][i] < first.slice[k][i])

@@ -32,13 +32,11 @@ static void count_text(const unsigned char *out, size_t n)
         fail("a last line of neither kind: %s", last);
 }
 
-void run_text(uint64_t seed)
+/* The n bytes of text_in, by all. */
+static void all_texts(size_t n)
 {
     size_t used[MOST_IMPLEMENTATIONS] = {0};
 
-    set_current("text", seed);
-    start_random(~seed);
-    size_t n = make_text(text_in);
     /* An exact copy, so that memory checkers see any reading past the end. */
     unsigned char *in = malloc(n == 0 ? 1 : n);
     if (in == NULL)
@@ -52,6 +50,21 @@ void run_text(uint64_t seed)
             fail("the outputs of %s and %s differ:\n%.*s---\n%.*s", texts[x].name, texts[0].name,
                  (int)used[x], (char *)text_out[x], (int)used[0], (char *)text_out[0]);
     count_text(text_out[0], used[0]);
+}
+
+void run_text(uint64_t seed)
+{
+    set_current("text", seed);
+    start_random(~seed);
+    all_texts(make_text(text_in));
+}
+
+void run_winter(uint64_t seed)
+{
+    set_current("winter", seed);
+    start_random(~seed);
+    all_texts(make_winter(text_in, &tally.winter_hits));
+    tally.winters++;
 }
 
 void show_text(void)

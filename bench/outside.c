@@ -1,7 +1,9 @@
 /* What crates/figures must print, from the plain rules: curve numbers in the three conditions, soil after dry spells,
- * the worked capacity, the winter days of document 003's table 3, and the two refusals that no text reaches. */
+ * the worked capacity, the winter days of document 003's table 3, a winter's frost index, and the two refusals that no
+ * text reaches. */
 #include "balance.h"
 #include "plain.h"
+#include "text.h"
 
 #include <inttypes.h>
 #include <stdio.h>
@@ -50,18 +52,31 @@ static void winter_days(void)
     }
 }
 
-/* Refusals 2 and 9 of a dry day of two cells: the lengths of three lent slices; soil, snow, yesterday's rain. */
+/* The frost index of thirty days of mean 140, from no frost on, and of 26 days of mean 410 after them. */
+static void frost_days(void)
+{
+    int64_t index = 0;
+
+    for (int day = 1; day <= 56; day++) {
+        index = plain_frost(index, day <= 30 ? 140 : 410);
+        printf("frost %d %" PRId64 "\n", day, index);
+    }
+}
+
+/* Refusals 2 and 9 of a dry day of two cells: the lengths of three lent slices; soil, snow, yesterday's rain,
+ * frost index. */
 static void refused(const size_t *len, const uint32_t *state)
 {
     static const uint32_t covers[16] = {3, 0, 75, 75, 75, 75, 0, 0, 0, 0, 0, 0, 250, 250, 250, 250};
     static const uint32_t direction[3] = {1, 0, 0}, cover[2] = {3, 3}, group[2] = {2, 2}, water[2] = {200, 200};
     uint32_t soil[3] = {state[0], state[1], 0}, snow[2] = {0, state[2]};
-    uint32_t memory[5] = {0, 0, 0, 0, state[3]}, last[1] = {BALANCE_NO_SERIAL};
+    uint32_t memory[5] = {0, 0, 0, 0, state[3]}, last[1] = {BALANCE_NO_SERIAL}, frost_index[1] = {state[4]};
     uint32_t intercepted[2], outflow[2], evapotranspired[2], recharged[2], rejected[3];
     uint64_t totals[7];
-    uint64_t no = plain_day(2, 1, 100, 200, covers, 16, direction, len[0], cover, 2, group, 2, water, 2, soil, len[1],
-                            snow, 2, memory, 5, last, 1, intercepted, 2, outflow, 2, evapotranspired, 2, recharged, 2,
-                            rejected, len[2], totals, 7, 1, 150, 0, 600, 700, 800, 0);
+    uint64_t no = plain_day(2, 1, 100, 200, TEXT_FIRST_SETPOINT, TEXT_SECOND_SETPOINT, covers, 16, direction, len[0],
+                            cover, 2, group, 2, water, 2, soil, len[1], snow, 2, memory, 5, last, 1, frost_index, 1,
+                            intercepted, 2, outflow, 2, evapotranspired, 2, recharged, 2, rejected, len[2], totals, 7,
+                            1, 150, 0, 600, 700, 800, 0);
 
     printf("refused %" PRIu64 " %" PRIu64 "\n", no >> 32, no & UINT32_MAX);
 }
@@ -69,14 +84,15 @@ static void refused(const size_t *len, const uint32_t *state)
 static void refusals(void)
 {
     static const size_t lengths[][3] = {{1, 2, 2}, {3, 2, 2}, {2, 1, 2}, {2, 3, 2}, {2, 2, 1}, {2, 2, 3}, {0, 0, 0}};
-    static const uint32_t states[][4] = {{50001, 0, 0, 0}, {0, 50001, 0, 0}, {50000, 50000, 10000001, 0},
-        {50000, 50000, 10000000, 400001}, {UINT32_MAX, UINT32_MAX, UINT32_MAX, UINT32_MAX}};
+    static const uint32_t states[][5] = {{50001, 0, 0, 0, 0}, {0, 50001, 0, 0, 0}, {50000, 50000, 10000001, 0, 0},
+        {50000, 50000, 10000000, 400001, 0}, {50000, 50000, 10000000, 400000, 2500001},
+        {UINT32_MAX, UINT32_MAX, UINT32_MAX, UINT32_MAX, UINT32_MAX}};
     static const size_t whole[3] = {2, 2, 2};
-    static const uint32_t dry[4] = {0, 0, 0, 0};
+    static const uint32_t dry[5] = {0, 0, 0, 0, 0};
 
     for (int i = 0; i < 7; i++)
         refused(lengths[i], dry);
-    for (int i = 0; i < 5; i++)
+    for (int i = 0; i < 6; i++)
         refused(whole, states[i]);
 }
 
@@ -86,6 +102,7 @@ int main(void)
     retention();
     printf("capacity 200 250 %" PRId64 "\n", plain_capacity(200, 250));
     winter_days();
+    frost_days();
     refusals();
     return 0;
 }

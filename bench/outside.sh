@@ -88,6 +88,19 @@ FNR == NR { if ($1 == "snow") { snows[$2] = $3; store[$2] = $4; reached[$2] = $5
     printf "| %d | %s | %s | %s | %s | %.1f | %s | %s | %.1f | %s | %.4f | %.4f |\n", $1, $2, $4, $5, $3, by4, by4 <= 32 ? "snow" : "rain", snows[$1] ? "snow" : "rain", by11, by11 <= 32 ? "snow" : "rain", store[$1] / 10000, reached[$1] / 10000
 }' $ours bench/outside/snow_days.csv > $made/snow.md
 
+# The frost index beside document 003's equation 7 without snow, in thousandths, and what it makes of condition I.
+awk '
+$1 != "frost" { next }
+{
+    if (!head++) print "| day | mean, °F | ours | 003, equation 7 | gap | condition I counts as |\n|---|---|---|---|---|---|"
+    mean = $2 <= 30 ? 140 : 410
+    theirs = 0.97 * theirs - 1000 * (mean - 320) / 18
+    if (theirs < 0) theirs = 0
+    gap = sprintf("%+.1f", $3 - theirs)
+    counts = $3 >= 83000 ? "III" : $3 >= 56000 ? "II" : "I"
+    printf "| %d | %d | %d | %.1f | %s | %s |\n", $2, mean / 10, $3, theirs, gap + 0 == 0 ? "0" : gap, counts
+}' $ours > $made/frost.md
+
 awk -F'\t' '
 { split($4, w, " "); n = w[1] == "refused" ? w[2] : 0; count[n]++
   if (n && !((n, w[4]) in seen)) { seen[n, w[4]] = 1; places[n]++; list[n] = list[n] (places[n] > 12 ? "" : (places[n] > 1 ? ", " : "") w[4]) } }

@@ -1,6 +1,6 @@
-/* Document 01 as plainly as it can be said in C: one function a rule (plain_rules.c) and one a
- * test (plain_tests.c); here the check, the fresh state and the day made of them.
- * Nothing here is meant to be fast. */
+/* Document 01, with M-106 of document 02, as plainly as it can be said in C: one function a rule
+ * (plain_rules.c) and one a test (plain_tests.c); here the check, the fresh state and the day made
+ * of them. Nothing here is meant to be fast. */
 #include "plain_setup.h"
 
 #include <string.h>
@@ -17,9 +17,11 @@ uint64_t plain_fresh(BALANCE_SETUP_PARAMETERS, BALANCE_STATE_PARAMETERS)
     struct setup s = GIVEN_SETUP;
     const size_t others[] = {soil_len, snow_len};
 
-    assert(memory_len == BALANCE_MEMORY && last_serial_len == 1);
+    if (memory_len != BALANCE_MEMORY || last_serial_len != 1 || frost_index_len != 1)
+        return refusal(2, 0); /* nowhere to put an answer */
     memset(memory, 0, BALANCE_MEMORY * sizeof memory[0]); /* refused or not */
     last_serial[0] = BALANCE_NO_SERIAL;
+    frost_index[0] = 0;
 
     uint64_t no = plain_tests_1_to_6(&s, others, 2);
     if (no != 0)
@@ -42,6 +44,18 @@ static uint32_t steps_to_the_end(const struct way *ways, uint32_t cell)
     return steps;
 }
 
+/* Rule 5's condition as M-106 amends it: what the day counts as. */
+static enum plain_condition condition_today(const struct setup *s, const struct day *day,
+                                            const uint32_t *memory, uint32_t frost_index)
+{
+    int64_t five_day_sum = 0; /* the five previous days: today is not yet among them */
+
+    for (int i = 0; i < BALANCE_MEMORY; i++)
+        five_day_sum += memory[i];
+    return plain_counts_as(plain_antecedent(five_day_sum, is_growing(s, day->day_of_year)),
+                           frost_index, s->first_setpoint, s->second_setpoint);
+}
+
 uint64_t plain_day(BALANCE_SETUP_PARAMETERS, BALANCE_STATE_PARAMETERS,
                    BALANCE_RESULT_PARAMETERS, BALANCE_DAY_PARAMETERS)
 {
@@ -50,20 +64,21 @@ uint64_t plain_day(BALANCE_SETUP_PARAMETERS, BALANCE_STATE_PARAMETERS,
     const size_t others[] = {soil_len, snow_len, intercepted_len, outflow_len,
                              evapotranspired_len, recharged_len, rejected_len};
 
-    assert(memory_len == BALANCE_MEMORY && last_serial_len == 1);
-    assert(totals_len == BALANCE_TOTALS);
+    if (memory_len != BALANCE_MEMORY || last_serial_len != 1 || frost_index_len != 1 ||
+        totals_len != BALANCE_TOTALS)
+        return refusal(2, 0); /* nowhere to put an answer */
     memset(totals, 0, BALANCE_TOTALS * sizeof totals[0]);
 
     uint64_t no;
     if ((no = plain_tests_1_to_6(&s, others, 7)) != 0) return no;
     if ((no = plain_test_7(&day)) != 0) return no;
     if ((no = plain_test_8(&day, last_serial[0])) != 0) return no;
-    if ((no = plain_test_9(&s, soil, snow, memory, last_serial[0])) != 0) return no;
+    if ((no = plain_test_9(&s, soil, snow, memory, last_serial[0], frost_index[0])) != 0) return no;
     if ((no = plain_test_10(&s, &day, snow)) != 0) return no;
 
-    int64_t five_day_sum = 0; /* the five previous days: today is not yet among them */
-    for (int i = 0; i < BALANCE_MEMORY; i++)
-        five_day_sum += memory[i];
+    /* The frost index first: the one that today sets decides today's condition. */
+    frost_index[0] = (uint32_t)plain_frost(frost_index[0], mean);
+    enum plain_condition condition = condition_today(&s, &day, memory, frost_index[0]);
 
     uint32_t cells = cell_count(&s);
     struct way ways[BALANCE_MAX_CELLS];
@@ -81,7 +96,7 @@ uint64_t plain_day(BALANCE_SETUP_PARAMETERS, BALANCE_STATE_PARAMETERS,
         for (uint32_t cell = 0; cell < cells; cell++) {
             if (steps[cell] != left)
                 continue;
-            struct cell_day c = plain_cell_rules(&s, &day, five_day_sum, cell, ways[cell],
+            struct cell_day c = plain_cell_rules(&s, &day, condition, cell, ways[cell],
                                                  inflow[cell], soil[cell], snow[cell]);
             if (ways[cell].goes == TO_CELL)
                 inflow[ways[cell].cell] += c.outflow;

@@ -13,6 +13,9 @@ int64_t plain_interception(int64_t gross, int64_t figure);                      
 bool plain_falls_as_snow(int64_t minimum, int64_t mean, int64_t maximum);         /* rule 3 */
 int64_t plain_melt(int64_t store, int64_t maximum);                               /* rule 3 */
 enum plain_condition plain_antecedent(int64_t five_day_sum, bool growing);        /* rule 5 */
+int64_t plain_frost(int64_t index, int64_t mean);                                 /* M-106 */
+enum plain_condition plain_counts_as(enum plain_condition antecedent, int64_t index,
+                                     int64_t first_setpoint, int64_t second_setpoint); /* M-106 */
 int64_t plain_curve_number(int64_t table_number, enum plain_condition condition); /* rule 5 */
 int64_t plain_outflow(int64_t c, int64_t w);                                      /* rule 6 */
 int64_t plain_retention(int64_t k);                                               /* F of rule 8 */

@@ -1,4 +1,4 @@
-/* Document 01's rules for one cell's day, one function a rule. */
+/* Document 01's rules for one cell's day and M-106's for the frost, one function a rule. */
 #include "plain_setup.h"
 
 __extension__ typedef unsigned __int128 wide; /* a squared, in rule 6, can pass 64 bits */
@@ -53,6 +53,36 @@ enum plain_condition plain_antecedent(int64_t five_day_sum, bool growing)
     if (five_day_sum > wet_above)
         return CONDITION_III;
     return CONDITION_II;
+}
+
+/* The greatest whole number not above over / under, for a positive `under`. C's own division drops
+ * the fraction, which below zero is the other way. */
+static int64_t floor_of(int64_t over, int64_t under)
+{
+    int64_t quotient = over / under;
+
+    return over % under < 0 ? quotient - 1 : quotient;
+}
+
+/* M-106: the frost index that an accepted day sets. 97 hundredths of it last through the day; the
+ * mean's distance from freezing, as thousandths of a Celsius degree, takes from it above and adds
+ * to it below. */
+int64_t plain_frost(int64_t index, int64_t mean)
+{
+    int64_t set = floor_of(97 * index, 100) - floor_of(1000 * (mean - 320), 18);
+
+    return set < 0 ? 0 : set;
+}
+
+/* M-106: at the second setpoint or more the day counts as III; from the first, I counts as II. */
+enum plain_condition plain_counts_as(enum plain_condition antecedent, int64_t index,
+                                     int64_t first_setpoint, int64_t second_setpoint)
+{
+    if (index >= second_setpoint)
+        return CONDITION_III;
+    if (index >= first_setpoint && antecedent == CONDITION_I)
+        return CONDITION_II;
+    return antecedent;
 }
 
 /* Rounded to nearest, halves up: floor(over / under + 1/2), for positive numbers. */
@@ -139,7 +169,7 @@ static void soil_rules(struct cell_day *c, int64_t n, int64_t e, int64_t capacit
 
 /* Rules 1 to 8. inflow is the sum of the outflows of all cells pointing here. */
 struct cell_day plain_cell_rules(const struct setup *s, const struct day *day,
-                                 int64_t five_day_sum, uint32_t cell, struct way way,
+                                 enum plain_condition condition, uint32_t cell, struct way way,
                                  int64_t inflow, int64_t soil, int64_t snow)
 {
     struct cell_day c = {.soil = soil, .snow = snow};
@@ -162,9 +192,7 @@ struct cell_day plain_cell_rules(const struct setup *s, const struct day *day,
 
     int64_t w = rain + melt + inflow; /* rule 4 */
 
-    bool growing = is_growing(s, day->day_of_year); /* rule 5 */
-    int64_t number = plain_curve_number(of_group(s, cell, CURVE),
-                                        plain_antecedent(five_day_sum, growing));
+    int64_t number = plain_curve_number(of_group(s, cell, CURVE), condition); /* rule 5 */
 
     c.outflow = way.goes == NOWHERE ? 0 : plain_outflow(number, w); /* rule 6 */
 

@@ -10,6 +10,7 @@
 
 struct setup {
     uint32_t width, height, first, last;
+    uint32_t first_setpoint, second_setpoint;
     const uint32_t *covers;
     size_t covers_len;
     const uint32_t *direction;
@@ -23,10 +24,10 @@ struct setup {
 };
 
 /* Packs the parameters of a public function. */
-#define GIVEN_SETUP                                                                       \
-    {                                                                                     \
-        width, height, first, last, covers, covers_len, direction, direction_len, cover,  \
-            cover_len, group, group_len, water, water_len                                 \
+#define GIVEN_SETUP                                                                        \
+    {                                                                                      \
+        width, height, first, last, first_setpoint, second_setpoint, covers, covers_len,   \
+            direction, direction_len, cover, cover_len, group, group_len, water, water_len \
     }
 
 /* Where the numbers of a cover entry stand. The four-fold ones are for groups A to D. */
@@ -129,6 +130,12 @@ static inline void find_ways(const struct setup *s, struct way *ways)
         ways[cell] = way_of(s, cell);
 }
 
+/* A refusal as the calls return it. */
+static inline uint64_t refusal(uint64_t number, uint64_t place)
+{
+    return number << 32 | place;
+}
+
 /* ---------------------------------------------------------------- parts in other files */
 
 /* Tests 1 to 6, then each of 7 to 10 (plain_tests.c): 0, or the refusal. `others` are the lengths of
@@ -137,7 +144,7 @@ uint64_t plain_tests_1_to_6(const struct setup *s, const size_t *others, size_t 
 uint64_t plain_test_7(const struct day *day);
 uint64_t plain_test_8(const struct day *day, uint32_t last_serial);
 uint64_t plain_test_9(const struct setup *s, const uint32_t *soil, const uint32_t *snow,
-                      const uint32_t *memory, uint32_t last_serial);
+                      const uint32_t *memory, uint32_t last_serial, uint32_t frost_index);
 uint64_t plain_test_10(const struct setup *s, const struct day *day, const uint32_t *snow);
 
 /* Rule 2 at a cell (plain_rules.c). */
@@ -149,9 +156,10 @@ struct cell_day {
     int64_t intercepted, outflow, evapotranspired, recharged, rejected;
 };
 
-/* Rules 1 to 8 (plain_rules.c). inflow is the sum of the outflows of all cells pointing here. */
+/* Rules 1 to 8 (plain_rules.c). condition is the one that the day counts as; inflow is the sum of the
+ * outflows of all cells pointing here. */
 struct cell_day plain_cell_rules(const struct setup *s, const struct day *day,
-                                 int64_t five_day_sum, uint32_t cell, struct way way,
+                                 enum plain_condition condition, uint32_t cell, struct way way,
                                  int64_t inflow, int64_t soil, int64_t snow);
 
 #endif

@@ -1,4 +1,4 @@
-/* Document 01's ten tests, one function a test. */
+/* Document 01's ten tests with what M-106 adds to them, one function a test. */
 #include "plain_setup.h"
 
 /* The limits. */
@@ -9,13 +9,10 @@ enum {
     LARGEST_POTENTIAL = 20000,
     LOWEST_TEMPERATURE = -1000,
     HIGHEST_TEMPERATURE = 1500,
-    DAYS_IN_YEAR = 366
+    DAYS_IN_YEAR = 366,
+    LARGEST_SETPOINT = 2000000,
+    LARGEST_FROST_INDEX = 2500000
 };
-
-static uint64_t refusal(uint64_t number, uint64_t place)
-{
-    return number << 32 | place;
-}
 
 /* 1: width or height 0, or more than 4,096 cells. */
 static uint64_t test_1(const struct setup *s)
@@ -106,11 +103,14 @@ static uint64_t test_5(const struct setup *s)
     return 0;
 }
 
-/* 6: season outside its limits. */
+/* 6: season outside its limits, or setpoints (M-106). */
 static uint64_t test_6(const struct setup *s)
 {
     if (s->first < 1 || s->first > DAYS_IN_YEAR || s->last < 1 || s->last > DAYS_IN_YEAR ||
         s->first > s->last)
+        return refusal(6, 0);
+    if (s->first_setpoint > LARGEST_SETPOINT || s->second_setpoint > LARGEST_SETPOINT ||
+        s->first_setpoint > s->second_setpoint)
         return refusal(6, 0);
     return 0;
 }
@@ -154,10 +154,10 @@ uint64_t plain_test_8(const struct day *day, uint32_t last_serial)
     return 0;
 }
 
-/* 9: state outside its limits: the cell, or the cell count for memory or serial. (In a day
- * the last serial cannot fail here, since tests 7 and 8 come first.) */
+/* 9: state outside its limits: the cell, or the cell count for memory, serial or frost index. (In a
+ * day the last serial cannot fail here, since tests 7 and 8 come first.) */
 uint64_t plain_test_9(const struct setup *s, const uint32_t *soil, const uint32_t *snow,
-                      const uint32_t *memory, uint32_t last_serial)
+                      const uint32_t *memory, uint32_t last_serial, uint32_t frost_index)
 {
     uint32_t cells = cell_count(s);
 
@@ -171,6 +171,8 @@ uint64_t plain_test_9(const struct setup *s, const uint32_t *soil, const uint32_
         if (memory[i] > LARGEST_GROSS)
             return refusal(9, cells);
     if (last_serial != BALANCE_NO_SERIAL && last_serial > LARGEST_SERIAL)
+        return refusal(9, cells);
+    if (frost_index > LARGEST_FROST_INDEX)
         return refusal(9, cells);
     return 0;
 }

@@ -1,4 +1,5 @@
-/* Document 01, "The program `balance`", as plainly as it can be said, over plain_*. */
+/* Document 01, "The program `balance`", as plainly as it can be said, over plain_*. M-106 gives it
+ * its setpoints. */
 #include "balance.h"
 #include "text.h"
 
@@ -122,7 +123,7 @@ struct grid {
     uint32_t direction[BALANCE_MAX_CELLS], cover[BALANCE_MAX_CELLS];
     uint32_t group[BALANCE_MAX_CELLS], water[BALANCE_MAX_CELLS];
     uint32_t soil[BALANCE_MAX_CELLS], snow[BALANCE_MAX_CELLS];
-    uint32_t memory[BALANCE_MEMORY], last_serial[1];
+    uint32_t memory[BALANCE_MEMORY], last_serial[1], frost_index[1];
     uint32_t intercepted[BALANCE_MAX_CELLS], outflow[BALANCE_MAX_CELLS];
     uint32_t evapotranspired[BALANCE_MAX_CELLS], recharged[BALANCE_MAX_CELLS];
     uint32_t rejected[BALANCE_MAX_CELLS];
@@ -154,20 +155,22 @@ static void take_setup(struct grid *g, const int32_t *number)
 
 static uint64_t start_fresh(struct grid *g)
 {
-    return plain_fresh(g->width, g->height, g->first, g->last, g->covers, g->covers_len,
-                       g->direction, g->cells, g->cover, g->cells, g->group, g->cells,
-                       g->water, g->cells, g->soil, g->cells, g->snow, g->cells, g->memory,
-                       BALANCE_MEMORY, g->last_serial, 1);
+    return plain_fresh(g->width, g->height, g->first, g->last, TEXT_FIRST_SETPOINT,
+                       TEXT_SECOND_SETPOINT, g->covers, g->covers_len, g->direction, g->cells,
+                       g->cover, g->cells, g->group, g->cells, g->water, g->cells, g->soil,
+                       g->cells, g->snow, g->cells, g->memory, BALANCE_MEMORY, g->last_serial, 1,
+                       g->frost_index, 1);
 }
 
 /* One day from its seven numbers: serial, day of year, gross precipitation, minimum, mean and
  * maximum temperature, potential evapotranspiration. */
 static uint64_t run_day(struct grid *g, const int32_t *number)
 {
-    return plain_day(g->width, g->height, g->first, g->last, g->covers, g->covers_len,
-                     g->direction, g->cells, g->cover, g->cells, g->group, g->cells, g->water,
-                     g->cells, g->soil, g->cells, g->snow, g->cells, g->memory, BALANCE_MEMORY,
-                     g->last_serial, 1, g->intercepted, g->cells, g->outflow, g->cells,
+    return plain_day(g->width, g->height, g->first, g->last, TEXT_FIRST_SETPOINT,
+                     TEXT_SECOND_SETPOINT, g->covers, g->covers_len, g->direction, g->cells,
+                     g->cover, g->cells, g->group, g->cells, g->water, g->cells, g->soil, g->cells,
+                     g->snow, g->cells, g->memory, BALANCE_MEMORY, g->last_serial, 1,
+                     g->frost_index, 1, g->intercepted, g->cells, g->outflow, g->cells,
                      g->evapotranspired, g->cells, g->recharged, g->cells, g->rejected, g->cells,
                      g->totals, BALANCE_TOTALS, to_field(number[0]), to_field(number[1]),
                      to_field(number[2]), number[3], number[4], number[5], to_field(number[6]));

@@ -16,7 +16,7 @@ tools=$own/toolchain
 target=x86_64-unknown-linux-gnu
 headers=$(LC_ALL=C ${CC:-cc} -E -v -x c /dev/null 2>&1 >/dev/null | sed -n '/^#include </,/^End/s/^ /-isystem /p')
 
-for file in $PLAIN plain_text fast fast_text table $CASES $FUZZ figures; do
+for file in $PLAIN plain_text fast fast_text table $CASES $FUZZ $FIGURES; do
     # shellcheck disable=SC2086
     "$tools/bin/clang" --target=$target -nostdinc $headers -std=c11 -O2 -DTHIRD=recharge -DTHIRD_TEXT=recharge -c $file.c -o $made/$file.o
 done
@@ -27,7 +27,8 @@ linked() { # PROGRAM NAME..: the program of these files and the implementations
     "$own/bin/rattle-link" --target $target --toolchain "$tools" -o $made/"$program" \
         $(printf "$made/%s.o " "$@" $PLAIN plain_text fast fast_text table) $archive 2>$made/said || { cat $made/said >&2; exit 1; }
 }
-linked figures figures
+# shellcheck disable=SC2086
+linked figures $FIGURES
 # shellcheck disable=SC2086
 linked fuzz $FUZZ $CASES
 

@@ -63,18 +63,19 @@ static const struct day days[DAYS] = {
 
 struct world {
     uint32_t soil[BALANCE_MAX_CELLS], snow[BALANCE_MAX_CELLS];
-    uint32_t memory[BALANCE_MEMORY], last_serial[1];
+    uint32_t memory[BALANCE_MEMORY], last_serial[1], frost_index[1];
     uint32_t results[5][BALANCE_MAX_CELLS];
     uint64_t totals[BALANCE_TOTALS], returned;
 };
 
 static struct world start, worlds[2];
 
-#define SETUP                                                                                  \
-    width, height, 90, 280, covers, sizeof covers / sizeof covers[0], direction, cells, cover, \
-        cells, group, cells, water, cells
-#define STATE(w)                                                                    \
-    (w)->soil, cells, (w)->snow, cells, (w)->memory, BALANCE_MEMORY, (w)->last_serial, 1
+#define SETUP                                                                                   \
+    width, height, 90, 280, TEXT_FIRST_SETPOINT, TEXT_SECOND_SETPOINT, covers,                  \
+        sizeof covers / sizeof covers[0], direction, cells, cover, cells, group, cells, water, cells
+#define STATE(w)                                                                            \
+    (w)->soil, cells, (w)->snow, cells, (w)->memory, BALANCE_MEMORY, (w)->last_serial, 1, \
+        (w)->frost_index, 1
 
 /* The days one after another, `repeats` times from the same state; the time of one day. */
 static double run(int which, uint32_t repeats)
@@ -88,6 +89,7 @@ static double run(int which, uint32_t repeats)
         memcpy(w->snow, start.snow, cells * sizeof w->snow[0]);
         memcpy(w->memory, start.memory, sizeof w->memory);
         w->last_serial[0] = BALANCE_NO_SERIAL;
+        w->frost_index[0] = start.frost_index[0];
         w->returned = 0;
         double before = microseconds();
         for (uint32_t n = 0; n < DAYS; n++) {

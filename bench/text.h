@@ -6,6 +6,9 @@
 
 enum {
     TEXT_LONGEST = 65536, /* the most bytes that the program accepts */
+    /* The program's setpoints of the frost index (M-106); its text has none. */
+    TEXT_FIRST_SETPOINT = 56000,
+    TEXT_SECOND_SETPOINT = 83000,
     /* Room that is enough for every output, and what the proved library asks for: at most 32,768
      * numbers make 4,681 days; it allows 168 bytes for a day's line and 53 for the last. */
     TEXT_ROOM = 4681 * 168 + 53

@@ -10,8 +10,9 @@
  * In PACK each vector is two lengths of six digits, "IIIIII OOOOOO" and a line feed, then the
  * input's bytes, then the output's.
  *
- * Each case says its own last line beforehand, worked out by hand from document 01. A case that
- * ends otherwise stops this program, so the expected outputs rest on two readings of the paper. */
+ * Each case says its own last line beforehand, or its last lines, worked out from document 01 and
+ * M-106 apart from the C. A case that ends otherwise stops this program, so the expected outputs rest
+ * on two readings of the paper. */
 #include "cases.h"
 #include "text.h"
 #include "vectors.h"
@@ -82,6 +83,15 @@ static const char *last_line(size_t n)
     return (const char *)output + start;
 }
 
+/* Is this the end of the output's n bytes, without the last line feed, from the start of a line on? */
+static bool ends_in(size_t n, const char *ends)
+{
+    size_t length = strlen(ends);
+
+    return length < n && strcmp((const char *)output + (n - 1 - length), ends) == 0 &&
+           (length == n - 1 || output[n - 2 - length] == '\n');
+}
+
 void vector(const char *name, const char *ends, const char *reason)
 {
     size_t n = plain_text(text, used, output, sizeof output);
@@ -91,8 +101,8 @@ void vector(const char *name, const char *ends, const char *reason)
     fwrite(text, 1, used, pack);
     fwrite(output, 1, n, pack);
     const char *last = last_line(n);
-    if (ends != NULL && strcmp(last, ends) != 0) {
-        fprintf(stderr, "vectors: %s ends in '%s' and not in '%s'\n", name, last, ends);
+    if (ends != NULL && !ends_in(n, ends)) {
+        fprintf(stderr, "vectors: %s ends in '%s' and not in '%s':\n%s\n", name, last, ends, output);
         exit(1);
     }
     fprintf(list, "%03u\t%5zu\t%6zu\t%-18s\t%s: %s\n", number, used, n, last, name, reason);
@@ -154,5 +164,6 @@ int main(int argc, char **argv)
     for (int i = 3; i < argc; i += 2)
         from_file(argv[i], argv[i + 1]);
     random_texts(100);
+    frost_cases(); /* last, so that the numbers before them are what they were */
     return fclose(pack) == 0 && fclose(list) == 0 ? 0 : 2;
 }

@@ -1,4 +1,4 @@
-/* How a vector's text is put together, and the four files' worth of cases. */
+/* How a vector's text is put together, and the five files' worth of cases. */
 #ifndef VECTORS_H
 #define VECTORS_H
 
@@ -15,14 +15,16 @@ void put_cover(int code, int water, int curve, int most, int growing, int dorman
 /* Three covers: 1 passes on all that falls on it and holds nothing, 2 is a meadow, 3 is a lake. */
 void put_three_covers(void);
 
-/* Ends the text: works out its output, which must end in the line `ends` (NULL: any), and
+/* Ends the text: works out its output, which must end in the line or lines `ends` (NULL: any), and
  * writes the vector. */
 void vector(const char *name, const char *ends, const char *reason);
 
-/* The cases of vectors_form.c, vectors_limits.c, vectors_grid.c and vectors_weather.c. */
+/* The cases of vectors_form.c, vectors_limits.c, vectors_grid.c, vectors_weather.c and
+ * vectors_frost.c. */
 void form_cases(void);    /* characters, numbers, length, cut-off ends: refusal 11 */
 void limit_cases(void);   /* each field just inside and just outside: 1, 3, 4, 6, 7, 8 */
 void grid_cases(void);    /* flow over small and largest grids, rings: 5 */
 void weather_cases(void); /* seasons, conditions, snow, dry spells: 10 */
+void frost_cases(void);   /* frozen ground, M-106 */
 
 #endif

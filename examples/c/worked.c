@@ -12,12 +12,14 @@ static const uint32_t covers[RECHARGE_ENTRY] = {3,    0,    75,  75, 75,  75,  6
                                                 6000, 6000, 900, 0,  250, 250, 250,  250};
 static const uint32_t direction[CELLS] = {1, 0}, cover[CELLS] = {3, 3}, group[CELLS] = {2, 2}, water[CELLS] = {200, 200};
 
-static uint32_t soil[CELLS], snow[CELLS], memory[RECHARGE_MEMORY], last_serial[1];
+static uint32_t soil[CELLS], snow[CELLS], memory[RECHARGE_MEMORY], last_serial[1], frost_index[1];
 static uint32_t intercepted[CELLS], outflow[CELLS], evapotranspired[CELLS], recharged[CELLS], rejected[CELLS];
 static uint64_t totals[RECHARGE_TOTALS];
 
-#define SETUP 2, 1, 120, 270, covers, RECHARGE_ENTRY, direction, CELLS, cover, CELLS, group, CELLS, water, CELLS
-#define STATE soil, CELLS, snow, CELLS, memory, RECHARGE_MEMORY, last_serial, 1
+#define SETUP                                                                                                          \
+    2, 1, 120, 270, RECHARGE_FIRST_SETPOINT, RECHARGE_SECOND_SETPOINT, covers, RECHARGE_ENTRY, direction, CELLS,       \
+        cover, CELLS, group, CELLS, water, CELLS
+#define STATE soil, CELLS, snow, CELLS, memory, RECHARGE_MEMORY, last_serial, 1, frost_index, 1
 #define RESULTS                                                                                                        \
     intercepted, CELLS, outflow, CELLS, evapotranspired, CELLS, recharged, CELLS, rejected, CELLS, totals, RECHARGE_TOTALS
 

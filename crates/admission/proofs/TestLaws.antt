@@ -102,7 +102,7 @@ module _ (g : Grid) (covers slots available soil snow : List ℕ) (past : Past) 
     record-good e = pass-single _ _ dayRecord day ∙ pass-single _ _ serialGap e
 
 -- of a setup that passed, with its slots and the day's plots
-module _ (s : Setup) (st : State) (d : Day) (slots plots₀ : List ℕ) (ok : stores.Testable s st slots) (t : Today) (is : t ≡ weatherOf (s .season) (st .past) d) where
+module _ (s : Setup) (st : State) (d : Day) (slots plots₀ : List ℕ) (ok : stores.Testable s st slots) (t : Today) (is : t ≡ weatherOf (s .climate) (st .past) d) where
   abbrev plots : List ℕ
   plots = plotsOf t (s .covers) plots₀
 
@@ -113,12 +113,12 @@ module _ (s : Setup) (st : State) (d : Day) (slots plots₀ : List ℕ) (ok : st
   vs = snowTests plots slots (st .snow)
 
   abbrev read : Today
-  read = today (s .season) (st .past) d
+  read = today (s .climate) (st .past) d
 
   module _ (day : dayFits d ≡ true) where
     -- a state that fits has a memory that fits, so that its weather is the paper's
     pub weather-is : verdict (stores.ninth s st ∷ []) ≡ accepted → t ≡ read
-    weather-is v = is ∙ today-fits (s .season) (st .past) d day (stores.memory-kept s st v)
+    weather-is v = is ∙ today-fits (s .climate) (st .past) d day (stores.memory-kept s st v)
 
     little : t ≡ read → t .gross ≤ mostGross
     unfolding today
@@ -181,7 +181,7 @@ module _ (s : Setup) (more : List ℕ) (st : State) (d : Day) where
         × (after .plots ≡ plotsOf (todayAs (r .today)) (s .covers) (before .plots))
     admitted t a = (t .surveyed (lent-accepts a) .mapped (survey-accepts a), t .laid (lent-accepts a) (survey-accepts a))
 
-    module _ (is : todayAs (r .today) ≡ weatherOf (s .season) (st .past) d) where
+    module _ (is : todayAs (r .today) ≡ weatherOf (s .climate) (st .past) d) where
       pub lent-decides : r .verdict ≡ verdictIn first → (r .verdict ≡ Accepted → ⊥) → after ≡ before → AllTested s more st d before r after
       lent-decides e not kept = go first refl
         where

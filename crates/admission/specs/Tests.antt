@@ -44,7 +44,7 @@ arraysOf slots ways order plots = record { slots = slots; ways = ways; order = o
 -- the verdict of all ten, the day's weather, and what the tests leave in the arrays
 pub record AllTested (s : Setup) (more : List ℕ) (st : State) (d : Day) (before : Arrays) (r : Tested) (after : Arrays) : Type 0 where
   pub verdict-is : r .verdict ≡ verdictIn (verdict (allTests s more st d))
-  pub weather : todayAs (r .today) ≡ weatherOf (s .season) (st .past) d
+  pub weather : todayAs (r .today) ≡ weatherOf (s .climate) (st .past) d
   -- where tests 1 and 2 of the stores and results refuse, all are as they were lent
   pub untouched : (why : Refusal) → verdict (lentTests (s .grid) more) ≡ refused why → after ≡ before
   -- else the setup's are as the survey leaves them

@@ -12,12 +12,12 @@ ghost use Rattle.stores.specs.States.{lentTests};
 ghost use Rattle.admission.specs.Tests.{dayLengths, laterTests, arraysOf, AllTested};
 use covers::PLOT_ROOM;
 use covers::lay_plots;
+use records::Climate;
 use records::DayRecord;
 use records::Grid;
 use records::MOST_CELLS;
 use records::Past;
 use records::Refusal;
-use records::Season;
 use records::Verdict;
 use records::results_each;
 use records::stores_each;
@@ -101,7 +101,7 @@ fn day_tests(
 // Tests 1 to 10. Where they all pass, the arrays are those of the setup and of the day.
 pub fn admit(
     grid: Grid,
-    season: Season,
+    climate: Climate,
     covers: &[u32],
     direction: &[u32],
     cover: &[u32],
@@ -117,12 +117,12 @@ pub fn admit(
     order: &mut [u32; MOST_CELLS],
     plots: &mut [u32; PLOT_ROOM],
 ) -> Tested
-    ensures { λ r. ⌜ AllTested (setupAs grid season (now (covers .entry)) (now (direction .entry)) (now (cover .entry)) (now (group .entry)) (now (available .entry)))
+    ensures { λ r. ⌜ AllTested (setupAs grid climate (now (covers .entry)) (now (direction .entry)) (now (cover .entry)) (now (group .entry)) (now (available .entry)))
         (dayLengths (length (now (soil .entry))) (length (now (snow .entry))) results) (stateAs (now (soil .entry)) (now (snow .entry)) past) (dayAs day)
         (arraysOf (now (slots .entry)) (now (ways .entry)) (now (order .entry)) (now (plots .entry))) r
         (arraysOf (now (slots .exit)) (now (ways .exit)) (now (order .exit)) (now (plots .exit))) ⌝ }
 {
-    let today = today_of(season, past, day);
+    let today = today_of(climate, past, day);
     let lent = lent_fit(grid, soil.len(), snow.len(), results);
     let Verdict::Accepted = lent else {
         return Tested {
@@ -132,7 +132,7 @@ pub fn admit(
     };
     let surveyed = survey(
         grid,
-        season,
+        climate,
         covers,
         direction,
         cover,

@@ -13,6 +13,7 @@ use Rattle.paper.specs.Setup.{Setup}
 use Rattle.paper.specs.State.{State, Day, Past, noPast, remembered, freshState}
 use Rattle.paper.specs.Refusals.{Verdict, accepted, refused, numberOf, placeOf, verdictNumber, verdictPlace}
 use Rattle.paper.specs.Day.{Fresh, freshAs, freshOf, Outcome, Results, verdictOf, outcomeAs, nextState, dayOf}
+use Rattle.paper.proofs.DayLaws.{sound-day, kept-frost}
 use Rattle.clib.specs.Narrow.{narrow, NarrowMemory, Narrow}
 use Rattle.clib.specs.Numbers.{returned, memoryFrom, memoryList, noSerial, lastFrom, lastNumber, lastList, pastFrom, Kept, lengthsFit, Lengths, totalsList}
 use Rattle.clib.specs.Handed.{Stores, storesFrom, stateFrom, storesOf, begun, keepable, begunAs, begunIf, freshFrom, handed, handedAs, handedIf, dayGives}
@@ -39,9 +40,14 @@ last-back (x ∷ []) h =
 last-back (x ∷ y ∷ l) h = absurd (omega arith)
 
 -- what the test of the lengths says of them
-pub lengths-known : {memory last : List ℕ} → lengthsFit (length memory) (length last) ≡ true → Lengths memory last
+pub lengths-known : {memory last frost : List ℕ} → lengthsFit (length memory) (length last) (length frost) ≡ true → Lengths memory last frost
 lengths-known {memory} {last} e =
-    record { five = eqb-true _ _ (and-left _ _ e); one = eqb-true _ _ (and-right (eqb (length memory) 5) _ e) }
+    let both : (eqb (length memory) 5 && eqb (length last) 1) ≡ true = and-left _ _ e in
+    record {
+      five = eqb-true _ _ (and-left _ _ both);
+      one = eqb-true _ _ (and-right (eqb (length memory) 5) _ both);
+      index = eqb-true _ _ (and-right (eqb (length memory) 5 && eqb (length last) 1) _ e);
+    }
 
 -- a fresh state
 module _ (s : Setup) (soil snow : List ℕ) where
@@ -65,6 +71,7 @@ module _ (s : Setup) (soil snow : List ℕ) where
       rw (ap (λ (o : Fresh). o .state .past) e ∙ fresh-past _)
       (record {
         memory = record { oldest = omega arith; fourth = omega arith; third = omega arith; second = omega arith; yesterday = omega arith };
+        frost = omega arith;
       })
 
 pub fresh-lent : (s : Setup) (l : Stores) → keepable l ≡ false → record { number = 8589934592; stores = l } ≡ freshFrom s l
@@ -72,13 +79,14 @@ unfolding freshFrom begunIf returned verdictNumber verdictPlace numberOf placeOf
 fresh-lent s l e = rw e refl
 
 pub fresh-handed : (s : Setup) (l : Stores) → keepable l ≡ true
-    → {o : Fresh} → o ≡ freshOf s (l .soil) (l .snow)
+    → {t : Setup} {o : Fresh} → o ≡ freshOf t (l .soil) (l .snow) → t ≡ s
     → {number : ℕ} → number ≡ returned (o .verdict)
-    → {memory last : List ℕ} → Kept (o .state .past) memory last
-    → begun number (o .state .soil) (o .state .snow) memory last ≡ freshFrom s l
+    → {memory last frost : List ℕ} → Kept (o .state .past) memory last frost
+    → begun number (o .state .soil) (o .state .snow) memory last frost ≡ freshFrom s l
 unfolding freshFrom begunIf begunAs storesOf
-fresh-handed s l fits {o} e number kept =
-    rw fits ((λ k. begun (number k) (o .state .soil) (o .state .snow) (kept .memory-is k) (kept .last-is k)) ∙ ap begunAs e)
+fresh-handed s l fits {t} {o} e same number kept =
+    rw fits ((λ k. begun (number k) (o .state .soil) (o .state .snow) (kept .memory-is k) (kept .last-is k) (kept .frost-is k))
+    ∙ ap begunAs (e ∙ ap (λ (u : Setup). freshOf u (l .soil) (l .snow)) same))
 
 -- a day
 module _ (s : Setup) (st : State) (r : Results) (d : Day) where
@@ -91,18 +99,20 @@ module _ (s : Setup) (st : State) (r : Results) (d : Day) where
   unfolding dayOf verdictOf
   day-placed e = rw (ap (λ (o : Outcome). o .verdict) e ∙ day-verdict _) (day-near s _ st d)
 
-  narrow-as : (v : Verdict) → Narrow (st .past) → d .gross < narrow → Narrow (outcomeAs s st r d v .state .past)
+  -- the index that an accepted day sets is within its limit
+  narrow-as : (v : Verdict) → verdictOf s st r d ≡ v → Narrow (st .past) → d .gross < narrow → Narrow (outcomeAs s st r d v .state .past)
   unfolding outcomeAs nextState remembered
-  narrow-as accepted p g =
+  narrow-as accepted e p g =
       let m : NarrowMemory (st .past .memory) = p .memory in
       record {
         memory = record { oldest = m .fourth; fourth = m .third; third = m .second; second = m .yesterday; yesterday = g };
+        frost = omega (arith, kept-frost s st r d (sound-day s st r d e));
       }
-  narrow-as (refused why) p g = p
+  narrow-as (refused why) e p g = p
 
   pub day-narrow : {o : Outcome} → o ≡ dayOf s st r d → Narrow (st .past) → d .gross < narrow → Narrow (o .state .past)
   unfolding dayOf
-  day-narrow e p g = rw (ap (λ (o : Outcome). o .state .past) e) (narrow-as _ p g)
+  day-narrow e p g = rw (ap (λ (o : Outcome). o .state .past) e) (narrow-as _ refl p g)
 
 module _ (s : Setup) (l : Stores) (r : Results) (totals : List ℕ) (d : Day) where
   pub day-lent : (keepable l && eqb (length totals) 7) ≡ false → handed 8589934592 l r totals ≡ dayGives s l r totals d
@@ -110,13 +120,13 @@ module _ (s : Setup) (l : Stores) (r : Results) (totals : List ℕ) (d : Day) wh
   day-lent e = rw e refl
 
   pub day-handed : (keepable l && eqb (length totals) 7) ≡ true
-      → {p : Past} {z : Day} {o : Outcome} → o ≡ dayOf s (record { soil = l .soil; snow = l .snow; past = p }) r z
-      → z ≡ d → p ≡ pastFrom (l .memory) (l .last)
+      → {t : Setup} {p : Past} {z : Day} {o : Outcome} → o ≡ dayOf t (record { soil = l .soil; snow = l .snow; past = p }) r z
+      → t ≡ s → z ≡ d → p ≡ pastFrom (l .memory) (l .last) (l .frost)
       → {number : ℕ} → number ≡ returned (o .verdict)
-      → {memory last sums : List ℕ} → Kept (o .state .past) memory last → sums ≡ totalsList (o .totals)
-      → handed number (storesFrom (o .state .soil) (o .state .snow) memory last) (o .results) sums ≡ dayGives s l r totals d
+      → {memory last frost sums : List ℕ} → Kept (o .state .past) memory last frost → sums ≡ totalsList (o .totals)
+      → handed number (storesFrom (o .state .soil) (o .state .snow) memory last frost) (o .results) sums ≡ dayGives s l r totals d
   unfolding dayGives handedIf handedAs storesOf stateFrom
-  day-handed fits {p} {z} {o} e days past number kept sums =
+  day-handed fits {t} {p} {z} {o} e same days past number kept sums =
       rw fits
-      ((λ k. handed (number k) (storesFrom (o .state .soil) (o .state .snow) (kept .memory-is k) (kept .last-is k)) (o .results) (sums k))
-      ∙ ap handedAs (e ∙ (λ k. dayOf s (record { soil = l .soil; snow = l .snow; past = past k }) r (days k))))
+      ((λ k. handed (number k) (storesFrom (o .state .soil) (o .state .snow) (kept .memory-is k) (kept .last-is k) (kept .frost-is k)) (o .results) (sums k))
+      ∙ ap handedAs (e ∙ (λ k. dayOf (same k) (record { soil = l .soil; snow = l .snow; past = past k }) r (days k))))

@@ -5,17 +5,24 @@ use Prim.Native.Nat.{ℕ}
 use lib.Dec.{eqb}
 use lib.IntN.{ℤ}
 use lib.ListN.{length}
-use Rattle.paper.specs.Setup.{Setup}
+use Rattle.paper.specs.Setup.{Climate, Setup}
 use Rattle.paper.specs.State.{State, Day}
 use Rattle.paper.specs.Refusals.{refused, lent}
 use Rattle.paper.specs.Day as paper
-use Rattle.clib.specs.Numbers.{returned, memoryList, lastList, pastFrom, lengthsFit, totalsList}
+use Rattle.clib.specs.Numbers.{returned, memoryList, lastList, frostList, pastFrom, lengthsFit, totalsList}
 
-abbrev pub setupFrom : ℕ → ℕ → ℕ → ℕ → List ℕ → List ℕ → List ℕ → List ℕ → List ℕ → Setup
-setupFrom width height first last covers direction cover group available =
+abbrev pub climateFrom : ℕ → ℕ → ℕ → ℕ → Climate
+climateFrom first last firstSetpoint secondSetpoint =
+    record {
+      season = record { first = first; last = last };
+      setpoints = record { first = firstSetpoint; second = secondSetpoint };
+    }
+
+abbrev pub setupFrom : ℕ → ℕ → Climate → List ℕ → List ℕ → List ℕ → List ℕ → List ℕ → Setup
+setupFrom width height climate covers direction cover group available =
     record {
       grid = record { width = width; height = height };
-      season = record { first = first; last = last };
+      climate = climate;
       covers = covers;
       direction = direction;
       cover = cover;
@@ -41,26 +48,27 @@ pub record Stores : Type 0 where
   pub snow : List ℕ
   pub memory : List ℕ
   pub last : List ℕ
+  pub frost : List ℕ
 
-abbrev pub storesFrom : List ℕ → List ℕ → List ℕ → List ℕ → Stores
-storesFrom soil snow memory last = record { soil = soil; snow = snow; memory = memory; last = last }
+abbrev pub storesFrom : List ℕ → List ℕ → List ℕ → List ℕ → List ℕ → Stores
+storesFrom soil snow memory last frost = record { soil = soil; snow = snow; memory = memory; last = last; frost = frost }
 
 unfoldable pub stateFrom : Stores → State
-stateFrom l = record { soil = l .soil; snow = l .snow; past = pastFrom (l .memory) (l .last) }
+stateFrom l = record { soil = l .soil; snow = l .snow; past = pastFrom (l .memory) (l .last) (l .frost) }
 
 unfoldable pub storesOf : State → Stores
-storesOf st = storesFrom (st .soil) (st .snow) (memoryList (st .past .memory)) (lastList (st .past .last))
+storesOf st = storesFrom (st .soil) (st .snow) (memoryList (st .past .memory)) (lastList (st .past .last)) (frostList (st .past .frost))
 
 -- what a fresh state's call hands back
 pub record Begun : Type 0 where
   pub number : ℕ
   pub stores : Stores
 
-abbrev pub begun : ℕ → List ℕ → List ℕ → List ℕ → List ℕ → Begun
-begun number soil snow memory last = record { number = number; stores = storesFrom soil snow memory last }
+abbrev pub begun : ℕ → List ℕ → List ℕ → List ℕ → List ℕ → List ℕ → Begun
+begun number soil snow memory last frost = record { number = number; stores = storesFrom soil snow memory last frost }
 
 unfoldable pub keepable : Stores → Bool
-keepable l = lengthsFit (length (l .memory)) (length (l .last))
+keepable l = lengthsFit (length (l .memory)) (length (l .last)) (length (l .frost))
 
 unfoldable pub begunAs : paper.Fresh → Begun
 begunAs o = record { number = returned (o .verdict); stores = storesOf (o .state) }

@@ -15,3 +15,4 @@ pub record NarrowMemory (m : Memory) : Type 0 where
 
 pub record Narrow (p : Past) : Type 0 where
   pub memory : NarrowMemory (p .memory)
+  pub frost : p .frost < narrow

@@ -41,22 +41,28 @@ lastNumber (serial n) = n
 unfoldable pub lastList : Last → List ℕ
 lastList last = lastNumber last ∷ []
 
+-- the frost index
+unfoldable pub frostList : ℕ → List ℕ
+frostList index = index ∷ []
+
 -- what a state has besides its stores
-unfoldable pub pastFrom : List ℕ → List ℕ → Past
-pastFrom memory last = record { memory = memoryFrom memory; last = lastFrom last }
+unfoldable pub pastFrom : List ℕ → List ℕ → List ℕ → Past
+pastFrom memory last frost = record { memory = memoryFrom memory; last = lastFrom last; frost = getD frost 0 0 }
 
 -- written into slices of their own
-pub record Kept (p : Past) (memory last : List ℕ) : Type 0 where
+pub record Kept (p : Past) (memory last frost : List ℕ) : Type 0 where
   pub memory-is : memory ≡ memoryList (p .memory)
   pub last-is : last ≡ lastList (p .last)
+  pub frost-is : frost ≡ frostList (p .frost)
 
--- by lengths: memory five numbers, last serial one
-abbrev pub lengthsFit : ℕ → ℕ → Bool
-lengthsFit memory last = eqb memory 5 && eqb last 1
+-- by lengths: memory five numbers, last serial and frost index one each
+abbrev pub lengthsFit : ℕ → ℕ → ℕ → Bool
+lengthsFit memory last frost = eqb memory 5 && eqb last 1 && eqb frost 1
 
-pub record Lengths (memory last : List ℕ) : Type 0 where
+pub record Lengths (memory last frost : List ℕ) : Type 0 where
   pub five : length memory ≡ 5
   pub one : length last ≡ 1
+  pub index : length frost ≡ 1
 
 -- in the paper's order
 unfoldable pub totalsList : Totals → List ℕ

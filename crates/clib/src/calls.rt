@@ -2,15 +2,15 @@
 ghost use mathlib.Core.Path.{_≡_};
 ghost use Rattle.paper.specs.Day.{checkOf};
 ghost use Rattle.clib.specs.Numbers.{returned};
-ghost use Rattle.clib.specs.Handed.{setupFrom, dayFrom, storesFrom, resultsFrom, begun, freshFrom, handed, dayGives};
+ghost use Rattle.clib.specs.Handed.{climateFrom, setupFrom, dayFrom, storesFrom, resultsFrom, begun, freshFrom, handed, dayGives};
 use crate::numbers::returned_as;
+use crate::state::climate_from;
 use crate::state::day_from;
 use crate::state::keep_past;
 use crate::state::lengths_fit;
 use crate::state::past_from;
 use crate::state::write_totals;
 use records::Grid;
-use records::Season;
 
 // Refusal 2 at 0.
 const LENT: u64 = 8589934592;
@@ -21,6 +21,8 @@ pub extern "C" fn recharge_check(
     height: u32,
     first: u32,
     last: u32,
+    first_setpoint: u32,
+    second_setpoint: u32,
     covers: &[u32],
     direction: &[u32],
     cover: &[u32],
@@ -28,11 +30,11 @@ pub extern "C" fn recharge_check(
     available: &[u32],
 ) -> u64
     ensures { λ r. ⌜ r ≡ returned (checkOf
-        (setupFrom width height first last (now (covers .entry)) (now (direction .entry)) (now (cover .entry)) (now (group .entry)) (now (available .entry)))) ⌝ }
+        (setupFrom width height (climateFrom first last «first_setpoint» «second_setpoint») (now (covers .entry)) (now (direction .entry)) (now (cover .entry)) (now (group .entry)) (now (available .entry)))) ⌝ }
 {
     let grid = Grid { width, height };
-    let season = Season { first, last };
-    returned_as(recharge::check(grid, season, covers, direction, cover, group, available))
+    let climate = climate_from(first, last, first_setpoint, second_setpoint);
+    returned_as(recharge::check(grid, climate, covers, direction, cover, group, available))
 }
 
 #[no_mangle]
@@ -41,6 +43,8 @@ pub extern "C" fn recharge_fresh(
     height: u32,
     first: u32,
     last: u32,
+    first_setpoint: u32,
+    second_setpoint: u32,
     covers: &[u32],
     direction: &[u32],
     cover: &[u32],
@@ -50,19 +54,20 @@ pub extern "C" fn recharge_fresh(
     snow: &mut [u32],
     memory: &mut [u32],
     last_serial: &mut [u32],
+    frost_index: &mut [u32],
 ) -> u64
-    ensures { λ r. ⌜ begun r (now (soil .exit)) (now (snow .exit)) (now (memory .exit)) (now («last_serial» .exit))
-        ≡ freshFrom (setupFrom width height first last (now (covers .entry)) (now (direction .entry)) (now (cover .entry)) (now (group .entry)) (now (available .entry)))
-        (storesFrom (now (soil .entry)) (now (snow .entry)) (now (memory .entry)) (now («last_serial» .entry))) ⌝ }
+    ensures { λ r. ⌜ begun r (now (soil .exit)) (now (snow .exit)) (now (memory .exit)) (now («last_serial» .exit)) (now («frost_index» .exit))
+        ≡ freshFrom (setupFrom width height (climateFrom first last «first_setpoint» «second_setpoint») (now (covers .entry)) (now (direction .entry)) (now (cover .entry)) (now (group .entry)) (now (available .entry)))
+        (storesFrom (now (soil .entry)) (now (snow .entry)) (now (memory .entry)) (now («last_serial» .entry)) (now («frost_index» .entry))) ⌝ }
 {
-    if !lengths_fit(memory.len(), last_serial.len()) {
+    if !lengths_fit(memory.len(), last_serial.len(), frost_index.len()) {
         return LENT;
     }
     let grid = Grid { width, height };
-    let season = Season { first, last };
+    let climate = climate_from(first, last, first_setpoint, second_setpoint);
     let start = recharge::fresh(
         grid,
-        season,
+        climate,
         covers,
         direction,
         cover,
@@ -73,7 +78,7 @@ pub extern "C" fn recharge_fresh(
     );
     let kept = start.past;
     let verdict = start.verdict;
-    keep_past(kept, memory, last_serial);
+    keep_past(kept, memory, last_serial, frost_index);
     returned_as(verdict)
 }
 
@@ -83,6 +88,8 @@ pub extern "C" fn recharge_day(
     height: u32,
     first: u32,
     last: u32,
+    first_setpoint: u32,
+    second_setpoint: u32,
     covers: &[u32],
     direction: &[u32],
     cover: &[u32],
@@ -92,6 +99,7 @@ pub extern "C" fn recharge_day(
     snow: &mut [u32],
     memory: &mut [u32],
     last_serial: &mut [u32],
+    frost_index: &mut [u32],
     intercepted: &mut [u32],
     outflow: &mut [u32],
     evapotranspired: &mut [u32],
@@ -106,19 +114,19 @@ pub extern "C" fn recharge_day(
     maximum: i32,
     potential: u32,
 ) -> u64
-    ensures { λ r. ⌜ handed r (storesFrom (now (soil .exit)) (now (snow .exit)) (now (memory .exit)) (now («last_serial» .exit)))
+    ensures { λ r. ⌜ handed r (storesFrom (now (soil .exit)) (now (snow .exit)) (now (memory .exit)) (now («last_serial» .exit)) (now («frost_index» .exit)))
         (resultsFrom (now (intercepted .exit)) (now (outflow .exit)) (now (evapotranspired .exit)) (now (recharged .exit)) (now (rejected .exit)))
         (now (totals .exit))
-        ≡ dayGives (setupFrom width height first last (now (covers .entry)) (now (direction .entry)) (now (cover .entry)) (now (group .entry)) (now (available .entry)))
-        (storesFrom (now (soil .entry)) (now (snow .entry)) (now (memory .entry)) (now («last_serial» .entry)))
+        ≡ dayGives (setupFrom width height (climateFrom first last «first_setpoint» «second_setpoint») (now (covers .entry)) (now (direction .entry)) (now (cover .entry)) (now (group .entry)) (now (available .entry)))
+        (storesFrom (now (soil .entry)) (now (snow .entry)) (now (memory .entry)) (now («last_serial» .entry)) (now («frost_index» .entry)))
         (resultsFrom (now (intercepted .entry)) (now (outflow .entry)) (now (evapotranspired .entry)) (now (recharged .entry)) (now (rejected .entry)))
         (now (totals .entry)) (dayFrom serial «day_of_year» gross minimum mean maximum potential) ⌝ }
 {
-    if !(lengths_fit(memory.len(), last_serial.len()) & (totals.len() == 7)) {
+    if !(lengths_fit(memory.len(), last_serial.len(), frost_index.len()) & (totals.len() == 7)) {
         return LENT;
     }
     let grid = Grid { width, height };
-    let season = Season { first, last };
+    let climate = climate_from(first, last, first_setpoint, second_setpoint);
     let day = day_from(
         serial,
         day_of_year,
@@ -128,10 +136,10 @@ pub extern "C" fn recharge_day(
         maximum,
         potential,
     );
-    let past = past_from(memory, last_serial);
+    let past = past_from(memory, last_serial, frost_index);
     let answer = recharge::day(
         grid,
-        season,
+        climate,
         covers,
         direction,
         cover,
@@ -150,7 +158,7 @@ pub extern "C" fn recharge_day(
     let kept = answer.past;
     let sums = answer.totals;
     let verdict = answer.verdict;
-    keep_past(kept, memory, last_serial);
+    keep_past(kept, memory, last_serial, frost_index);
     write_totals(sums, totals);
     returned_as(verdict)
 }

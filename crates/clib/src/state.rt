@@ -1,18 +1,23 @@
-// What a state has besides its stores, the day record and the totals as plain numbers.
+// The climate, what a state has besides its stores, the day record and the totals as plain numbers.
 ghost use mathlib.Core.Path.{_≡_};
 ghost use Prim.Native.Nat.{_<_};
-ghost use lib.ListN.{length};
+ghost use lib.ListN.{length, getD};
+ghost use Rattle.records.specs.Grids.{climateAs};
 ghost use Rattle.records.specs.Past.{memoryAs, lastAs, pastAs};
 ghost use Rattle.records.specs.Days.{dayAs};
 ghost use Rattle.records.specs.Answers.{totalsAs};
-ghost use Rattle.clib.specs.Numbers.{memoryFrom, memoryList, lastFrom, lastList, lastNumber, pastFrom, Kept, lengthsFit, Lengths, totalsList};
-ghost use Rattle.clib.specs.Handed.{dayFrom};
+ghost use Rattle.clib.specs.Numbers.{memoryFrom, memoryList, lastFrom, lastList, lastNumber, frostList, pastFrom, Kept, lengthsFit, Lengths, totalsList};
+ghost use Rattle.clib.specs.Handed.{climateFrom, dayFrom};
 ghost use Rattle.clib.specs.Narrow.{narrow, NarrowMemory, Narrow};
+use records::Climate;
 use records::DayRecord;
 use records::Depth;
+use records::FrostIndex;
 use records::Last;
 use records::Memory;
 use records::Past;
+use records::Season;
+use records::Setpoints;
 use records::TenthF;
 use records::Totals;
 
@@ -25,11 +30,33 @@ fn depth(figure: u32) -> Depth
     Depth(figure as u64)
 }
 
-// With another length there is nowhere to put an answer.
-pub(crate) fn lengths_fit(memory: usize, last: usize) -> bool
-    ensures { λ r. ⌜ r ≡ lengthsFit memory last ⌝ }
+fn index(figure: u32) -> FrostIndex
+    ensures { λ r. ⌜ (r .0 ≡ figure) × (r .0 < narrow) ⌝ }
 {
-    (memory == 5) & (last == 1)
+    FrostIndex(figure as u64)
+}
+
+pub(crate) fn climate_from(
+    first: u32,
+    last: u32,
+    first_setpoint: u32,
+    second_setpoint: u32,
+) -> Climate
+    ensures { λ r. ⌜ climateAs r ≡ climateFrom first last «first_setpoint» «second_setpoint» ⌝ }
+{
+    let season = Season { first, last };
+    let setpoints = Setpoints {
+        first: index(first_setpoint),
+        second: index(second_setpoint),
+    };
+    Climate { season, setpoints }
+}
+
+// With another length there is nowhere to put an answer.
+pub(crate) fn lengths_fit(memory: usize, last: usize, frost: usize) -> bool
+    ensures { λ r. ⌜ r ≡ lengthsFit memory last frost ⌝ }
+{
+    (memory == 5) & (last == 1) & (frost == 1)
 }
 
 fn memory_from(memory: &[u32]) -> Memory
@@ -56,13 +83,25 @@ fn last_from(last: &[u32]) -> Last
     Last::Serial(serial)
 }
 
-pub(crate) fn past_from(memory: &[u32], last: &[u32]) -> Past
-    requires { ⌜ Lengths (now memory) (now last) ⌝ }
-    ensures { λ r. ⌜ (pastAs r ≡ pastFrom (now (memory .entry)) (now (last .entry))) × Narrow (pastAs r) ⌝ }
+fn frost_from(frost: &[u32]) -> FrostIndex
+    requires { ⌜ length (now frost) ≡ 1 ⌝ }
+    ensures { λ r. ⌜ (r .0 ≡ getD (now (frost .entry)) 0 0) × (r .0 < narrow) ⌝ }
+{
+    index(frost[0])
+}
+
+pub(crate) fn past_from(memory: &[u32], last: &[u32], frost: &[u32]) -> Past
+    requires { ⌜ Lengths (now memory) (now last) (now frost) ⌝ }
+    ensures { λ r. ⌜ (pastAs r ≡ pastFrom (now (memory .entry)) (now (last .entry)) (now (frost .entry))) × Narrow (pastAs r) ⌝ }
 {
     let memory = memory_from(memory);
     let last = last_from(last);
-    Past { memory, last }
+    let frost = frost_from(frost);
+    Past {
+        memory,
+        last,
+        frost,
+    }
 }
 
 pub(crate) fn day_from(
@@ -119,14 +158,24 @@ fn keep_last(kept: Last, last: &mut [u32])
     last[0] = serial_of(kept);
 }
 
-pub(crate) fn keep_past(kept: Past, memory: &mut [u32], last: &mut [u32])
-    requires { ⌜ Narrow (pastAs kept) × Lengths (now memory) (now last) ⌝ }
-    ensures { λ r. ⌜ Kept (pastAs kept) (now (memory .exit)) (now (last .exit)) ⌝ }
+fn keep_frost(kept: FrostIndex, frost: &mut [u32])
+    requires { ⌜ (kept .0 < narrow) × (length (now frost) ≡ 1) ⌝ }
+    ensures { λ r. ⌜ now (frost .exit) ≡ frostList (kept .0) ⌝ }
+{
+    let index = kept.0;
+    frost[0] = index as u32;
+}
+
+pub(crate) fn keep_past(kept: Past, memory: &mut [u32], last: &mut [u32], frost: &mut [u32])
+    requires { ⌜ Narrow (pastAs kept) × Lengths (now memory) (now last) (now frost) ⌝ }
+    ensures { λ r. ⌜ Kept (pastAs kept) (now (memory .exit)) (now (last .exit)) (now (frost .exit)) ⌝ }
 {
     let remembered = kept.memory;
     let seen = kept.last;
+    let reached = kept.frost;
     keep_memory(remembered, memory);
     keep_last(seen, last);
+    keep_frost(reached, frost);
 }
 
 pub(crate) fn write_totals(sums: Totals, totals: &mut [u64])

@@ -1,11 +1,14 @@
 // Document 01's worked example through the library: a fresh state and two days, then a day that is refused, since its serial
 // does not follow. It prints what the program `balance` prints of the same days; examples/c has them from C.
 use records::Answer;
+use records::Climate;
 use records::DayRecord;
 use records::Depth;
+use records::FrostIndex;
 use records::Grid;
 use records::Past;
 use records::Season;
+use records::Setpoints;
 use records::TenthF;
 use records::Totals;
 use records::Verdict;
@@ -16,9 +19,15 @@ const GRID: Grid = Grid {
     height: 1,
 };
 
-const SEASON: Season = Season {
-    first: 120,
-    last: 270,
+const CLIMATE: Climate = Climate {
+    season: Season {
+        first: 120,
+        last: 270,
+    },
+    setpoints: Setpoints {
+        first: FrostIndex::FIRST_SETPOINT,
+        second: FrostIndex::SECOND_SETPOINT,
+    },
 };
 
 const COVERS: [u32; 16] = [
@@ -102,7 +111,7 @@ fn day(
     };
     let answer = recharge::day(
         GRID,
-        SEASON,
+        CLIMATE,
         &COVERS,
         &DIRECTIONS,
         &CODES,
@@ -126,7 +135,7 @@ fn main() {
     let mut snow = [0, 0];
     let start = recharge::fresh(
         GRID,
-        SEASON,
+        CLIMATE,
         &COVERS,
         &DIRECTIONS,
         &CODES,

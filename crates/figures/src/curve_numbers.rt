@@ -48,7 +48,7 @@ fn taken(n: u32, sum: u64) -> u64 {
         ground,
         0,
         0,
-        remembered(sum),
+        remembered(sum, 0),
         weather(400000, 600, 700, 800, 0),
     );
     let outflow = cell.outflow;

@@ -1,6 +1,7 @@
-// The library beside outside tables: prints what it answers for the figures that documents 000, 002, 003 and 004 print or fit. bench/outside.sh sets
+// The library beside outside tables: prints what it answers for the figures that documents 000, 002, 003 and 004 print or fit, and for a winter's frost. bench/outside.sh sets
 // these lines beside theirs in docs/VECTORS.md. Every figure is read off days of one cell that drains over the edge, since the rules are private.
 mod curve_numbers;
+mod frost;
 mod one_cell;
 mod printing;
 mod refusals;
@@ -8,6 +9,7 @@ mod retention;
 mod winter;
 
 use curve_numbers::curve_numbers;
+use frost::frost_days;
 use refusals::refusals;
 use retention::capacity;
 use retention::retention;
@@ -18,5 +20,6 @@ fn main() {
     retention();
     capacity(200, 250);
     winter_days();
+    frost_days();
     refusals();
 }

@@ -1,17 +1,26 @@
 // Days of one cell that drains over the edge.
+use records::Climate;
 use records::DayRecord;
 use records::Depth;
+use records::FrostIndex;
 use records::Grid;
 use records::Last;
 use records::Memory;
 use records::Past;
 use records::Season;
+use records::Setpoints;
 use records::TenthF;
 use records::Verdict;
 
-pub(crate) const GROWING: Season = Season {
-    first: 100,
-    last: 200,
+pub(crate) const CLIMATE: Climate = Climate {
+    season: Season {
+        first: 100,
+        last: 200,
+    },
+    setpoints: Setpoints {
+        first: FrostIndex::FIRST_SETPOINT,
+        second: FrostIndex::SECOND_SETPOINT,
+    },
 };
 
 pub(crate) const ONE_CELL: Grid = Grid {
@@ -24,6 +33,7 @@ pub(crate) struct Cell {
     pub(crate) outflow: u32,
     pub(crate) soil: u32,
     pub(crate) snow: u32,
+    pub(crate) frost: u64,
 }
 
 pub(crate) struct Ground {
@@ -32,7 +42,7 @@ pub(crate) struct Ground {
     pub(crate) water: u32,
 }
 
-pub(crate) fn remembered(yesterday: u64) -> Past {
+pub(crate) fn remembered(yesterday: u64, frost: u64) -> Past {
     let memory = Memory {
         oldest: Depth(0),
         fourth: Depth(0),
@@ -43,6 +53,7 @@ pub(crate) fn remembered(yesterday: u64) -> Past {
     Past {
         memory,
         last: Last::Never,
+        frost: FrostIndex(frost),
     }
 }
 
@@ -83,7 +94,7 @@ pub(crate) fn lived(ground: Ground, soil: u32, snow: u32, past: Past, day: DayRe
     let mut rejected = [0];
     let answer = recharge::day(
         ONE_CELL,
-        GROWING,
+        CLIMATE,
         &covers,
         &direction,
         &cover,
@@ -105,11 +116,14 @@ pub(crate) fn lived(ground: Ground, soil: u32, snow: u32, past: Past, day: DayRe
             outflow: 4294967295,
             soil: 4294967295,
             snow: 4294967295,
+            frost: 4294967295,
         };
     };
+    let past = answer.past;
     Cell {
         outflow: outflow[0],
         soil: soils[0],
         snow: snows[0],
+        frost: past.frost.0,
     }
 }

@@ -1,6 +1,6 @@
 // Refusals 2 and 9: the text lends whole slices and starts fresh, so they are reached here.
 ghost use Prim.Native.Nat.{_≤_};
-use crate::one_cell::GROWING;
+use crate::one_cell::CLIMATE;
 use crate::one_cell::remembered;
 use crate::one_cell::weather;
 use crate::printing::ended;
@@ -31,6 +31,7 @@ fn tried(
     second_soil: u32,
     second_snow: u32,
     yesterday: u64,
+    frost: u64,
 )
     requires { ⌜ (directions ≤ 3) × (soils ≤ 3) × (results ≤ 3) ⌝ }
 {
@@ -41,7 +42,7 @@ fn tried(
     let mut rejected = [0, 0, 0];
     let answer = recharge::day(
         TWO_CELLS,
-        GROWING,
+        CLIMATE,
         &covers,
         &direction[..directions],
         &[3, 3],
@@ -54,7 +55,7 @@ fn tried(
         &mut [0, 0],
         &mut [0, 0],
         &mut rejected[..results],
-        remembered(yesterday),
+        remembered(yesterday, frost),
         weather(0, 600, 700, 800, 0),
     );
     let verdict = answer.verdict;
@@ -64,11 +65,20 @@ fn tried(
 fn lent(directions: usize, soils: usize, results: usize)
     requires { ⌜ (directions ≤ 3) × (soils ≤ 3) × (results ≤ 3) ⌝ }
 {
-    tried(directions, soils, results, 0, 0, 0, 0);
+    tried(directions, soils, results, 0, 0, 0, 0, 0);
 }
 
-fn stood(first_soil: u32, second_soil: u32, second_snow: u32, yesterday: u64) {
-    tried(2, 2, 2, first_soil, second_soil, second_snow, yesterday);
+fn stood(first_soil: u32, second_soil: u32, second_snow: u32, yesterday: u64, frost: u64) {
+    tried(
+        2,
+        2,
+        2,
+        first_soil,
+        second_soil,
+        second_snow,
+        yesterday,
+        frost,
+    );
 }
 
 pub(crate) fn refusals() {
@@ -79,9 +89,10 @@ pub(crate) fn refusals() {
     lent(2, 2, 1);
     lent(2, 2, 3);
     lent(0, 0, 0);
-    stood(50001, 0, 0, 0);
-    stood(0, 50001, 0, 0);
-    stood(50000, 50000, 10000001, 0);
-    stood(50000, 50000, 10000000, 400001);
-    stood(4294967295, 4294967295, 4294967295, 4294967295);
+    stood(50001, 0, 0, 0, 0);
+    stood(0, 50001, 0, 0, 0);
+    stood(50000, 50000, 10000001, 0, 0);
+    stood(50000, 50000, 10000000, 400001, 0);
+    stood(50000, 50000, 10000000, 400000, 2500001);
+    stood(4294967295, 4294967295, 4294967295, 4294967295, 4294967295);
 }

@@ -1,6 +1,6 @@
 // The soil of rule 8 in dry spells, which document 000 fits, and the full soil of a fresh state.
 ghost use Prim.Native.Nat.{_≤_};
-use crate::one_cell::GROWING;
+use crate::one_cell::CLIMATE;
 use crate::one_cell::Ground;
 use crate::one_cell::ONE_CELL;
 use crate::one_cell::lived;
@@ -26,7 +26,7 @@ fn dried(tenths: u32, days: u32, soil: u32) -> u32
             ground,
             left,
             0,
-            remembered(0),
+            remembered(0, 0),
             weather(0, 600, 700, 800, 100 * wide(tenths)),
         );
         left = cell.soil;
@@ -82,7 +82,7 @@ pub(crate) fn capacity(water: u32, root: u32) {
     let mut snow = [0];
     let start = recharge::fresh(
         ONE_CELL,
-        GROWING,
+        CLIMATE,
         &covers,
         &[1],
         &[3],

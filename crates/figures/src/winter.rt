@@ -18,7 +18,7 @@ fn snows(minimum: i32, mean: i32, maximum: i32) -> u64 {
         ground,
         0,
         0,
-        remembered(0),
+        remembered(0, 0),
         weather(400000, minimum, mean, maximum, 0),
     );
     let left = cell.snow;
@@ -37,7 +37,7 @@ fn winter(date: u64, gross: u64, minimum: i32, mean: i32, maximum: i32, snow: u3
         ground,
         0,
         snow,
-        remembered(0),
+        remembered(0, 0),
         weather(gross, minimum, mean, maximum, 0),
     );
     let left = cell.snow;

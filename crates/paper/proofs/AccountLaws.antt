@@ -34,7 +34,7 @@ one-of {n} few openWater x inside none = rw (le-ltb 4098 n (le-trans few (lit≤
 
 module _ (s : Setup) (st : State) (r : Results) (d : Day) (ok : SoundDay s st r d) where
   abbrev t : Today
-  t = today (s .season) (st .past) d
+  t = today (s .climate) (st .past) d
 
   abbrev n : ℕ
   n = cells s

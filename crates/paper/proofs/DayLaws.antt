@@ -7,22 +7,25 @@ use native.Mathlib.Nat.{le-refl, le-trans, zero-lt-suc, lt-suc-self, le-of-lt, m
 use native.Mathlib.Omega.{arith}
 use lib.Dec.{eqb, leb, ltb, lit<}
 use lib.ListN.{length}
+use lib.Signed.{leZ}
 use borrow.Author.Tests.{leb-true, ltb-true, ltb-false, eqb-true, not-false, lt-ltb, le-ltb, le-leb}
 use Rattle.theory.specs.Sums.{sum}
 use Rattle.theory.specs.Ways.{UpslopeFirst}
 use Rattle.theory.proofs.Cases.{byCases, and-left, and-right, and-both, cond-true, cond-false}
 use Rattle.theory.proofs.ListLaws.{made-at}
 use Rattle.theory.proofs.SumLaws.{sum-most}
-use Rattle.paper.specs.Limits.{mostSnow, mostGross}
+use Rattle.paper.specs.Limits.{mostSnow, mostGross, mostFrost, leastTemperature}
 use Rattle.paper.specs.Setup.{Setup, cell, cells, next}
 use Rattle.paper.specs.State.{State, Day, mostSoilOf, mostSnowOf, soilAt, snowAt, storesFit, memoryFits, lastFits, pastFits, dayFits, follows, remembered, serial}
 use Rattle.paper.specs.CurveNumber.{curveNumber}
+use Rattle.paper.specs.Frost.{frostAfter}
 use Rattle.paper.specs.CellDay.{Today, today, storeOf}
 use Rattle.paper.specs.Flow.{water}
 use Rattle.paper.specs.Refusals.{Refusal, Verdict, accepted, refused, verdict, single, oneEach, setupLengths, setupTests, mapTests, stateFits, tooDeep, dayTests}
 use Rattle.paper.specs.Day.{own, passed, inflow, figures, Results, noTotals, nextState, lengthsOf, verdictOf, figuresOf, outcomeAs, dayOf}
 use Rattle.paper.proofs.SnowLaws.{melt-most}
 use Rattle.paper.proofs.CurveNumberLaws.{curve-number-limits}
+use Rattle.paper.proofs.FrostLaws.{frost-kept}
 use Rattle.paper.proofs.CellDayLaws.{end-soil, end-snow, own-most, passed-most}
 use Rattle.paper.proofs.FlowLaws.{water-reached, water-most}
 use Rattle.paper.proofs.RefusalLaws.{Passes, testAt, accepted-passes}
@@ -37,8 +40,9 @@ pub record SoundDay (s : Setup) (st : State) (r : Results) (d : Day) : Type 0 wh
   pub snow : (i : ℕ) → i < cells s → snowAt st i ≤ mostSnowOf (cell s i)
   pub memory : memoryFits (st .past .memory) ≡ true
   pub last : lastFits (st .past .last) ≡ true
+  pub frost : st .past .frost ≤ mostFrost
   pub room : (i : ℕ) → i < cells s → cell s i .open? ≡ false
-      → storeOf (cell s i) (today (s .season) (st .past) d) (snowAt st i) ≤ mostSnow
+      → storeOf (cell s i) (today (s .climate) (st .past) d) (snowAt st i) ≤ mostSnow
 
 not-and : (a b : Bool) → a ≡ false → (not a && b) ≡ false → b ≡ false
 not-and true b e f = absurd (true≢false e)
@@ -73,8 +77,9 @@ module _ (s : Setup) (st : State) (r : Results) (d : Day) (e : verdictOf s st r 
         serial = not-false _ (day-passes 7 (lit< tt) 0 (zero-lt-suc 0));
         soil = λ i h. leb-true _ _ (and-left _ _ (stores-fit i h));
         snow = λ i h. leb-true _ _ (and-right (leb (soilAt st i) (mostSoilOf (cell s i))) _ (stores-fit i h));
-        memory = and-left _ _ past-fits;
-        last = and-right (memoryFits (st .past .memory)) _ past-fits;
+        memory = and-left _ _ (and-left _ _ past-fits);
+        last = and-right (memoryFits (st .past .memory)) _ (and-left _ _ past-fits);
+        frost = leb-true _ _ (and-right (memoryFits (st .past .memory) && lastFits (st .past .last)) _ past-fits);
         room = λ i h land. ltb-false _ _ (not-and _ _ land (day-passes 9 (lit< tt) i h));
       }
 
@@ -100,7 +105,7 @@ refused-is s st r d why e = ap (outcomeAs s st r d) e
 
 module _ (s : Setup) (st : State) (r : Results) (d : Day) (ok : SoundDay s st r d) where
   abbrev t : Today
-  t = today (s .season) (st .past) d
+  t = today (s .climate) (st .past) d
 
   abbrev n : ℕ
   n = cells s
@@ -167,6 +172,14 @@ module _ (s : Setup) (st : State) (r : Results) (d : Day) (ok : SoundDay s st r 
   unfolding lastFits dayFits
   kept-serial = let fits : dayFits d ≡ true = ok .day in search (and-left, and-right) depth 9
 
+  -- the index that the day sets is within its limit again, and so fits every number of 32 bits
+  pub kept-frost : frostAfter (st .past .frost) (d .mean) ≤ mostFrost
+  unfolding dayFits
+  kept-frost =
+      let fits : dayFits d ≡ true = ok .day in
+      let cold : leZ leastTemperature (d .mean) ≡ true = search (and-left, and-right) depth 12 in
+      omega (arith, frost-kept (st .past .frost) (d .mean) (ok .frost) cold)
+
   -- an accepted day keeps the state within its limits
   pub kept-soil : (i : ℕ) → i < n → figuresOf s st d i .soil ≤ mostSoilOf (cell s i)
   unfolding figuresOf figures
@@ -187,4 +200,4 @@ module _ (s : Setup) (st : State) (r : Results) (d : Day) (ok : SoundDay s st r 
       let snow : snowAt (nextState s st d (figuresOf s st d)) i ≤ mostSnowOf (cell s i)
       = rw (made-at n (λ j. figuresOf s st d j .snow) 0 i inside) (kept-snow i inside) in
       rw (cond-true (ltb i n) e) (and-both _ _ (le-leb _ _ soil) (le-leb _ _ snow)))
-      (λ e. rw (cond-false (ltb i n) e) (and-both _ _ kept-memory kept-serial))
+      (λ e. rw (cond-false (ltb i n) e) (and-both _ _ (and-both _ _ kept-memory kept-serial) (le-leb _ _ kept-frost)))

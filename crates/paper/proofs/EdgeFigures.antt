@@ -1,4 +1,4 @@
--- The edges of document 01's limits, as one table that computes: for each limit a value on it that passes and the next one that fails, for each
+-- The edges of the limits of documents 01 and 02, as one table that computes: for each limit a value on it that passes and the next one that fails, for each
 -- number of a cover entry the figure that reads it, both limits of both seasons from both sides, the serials, the zeros, and each refusal's number
 -- and place on an example. So a slip of one in a definition shows here.
 use mathlib.Core.Path.{_≡_, refl}
@@ -13,11 +13,12 @@ use Rattle.theory.specs.Sums.{sum, given}
 use Rattle.theory.specs.Ways.{walk, onRing}
 use Rattle.paper.specs.Covers.{entries, sizeFits, groupFits, rises, entryFits}
 use Rattle.paper.specs.Directions.{wayOf, stepped, cellAt, goesBy}
-use Rattle.paper.specs.Setup.{Setup, Cell, cell, cellsOf, gridFits, seasonFits, growing, placeOr, entryOf, cellFits, isOpen, goes, pointed, next, isClosed}
-use Rattle.paper.specs.State.{Memory, none, serial, State, Day, noRain, noPast, remembered, fiveDays, mostSoilOf, mostSnowOf, storesFit, memoryFits, lastFits, pastFits, dayFits, follows, freshState}
+use Rattle.paper.specs.Setup.{Climate, Setup, Cell, cell, cellsOf, gridFits, seasonFits, setpointsFit, climateFits, growing, placeOr, entryOf, cellFits, isOpen, goes, pointed, next, isClosed}
+use Rattle.paper.specs.State.{Memory, none, serial, Past, State, Day, noRain, noPast, remembered, fiveDays, mostSoilOf, mostSnowOf, storesFit, memoryFits, lastFits, pastFits, dayFits, follows, freshState}
 use Rattle.paper.specs.Interception.{intercepted, net}
 use Rattle.paper.specs.Snow.{fallsAsSnow, aboveFreezing, meltable}
 use Rattle.paper.specs.CurveNumber.{I, II, III, class, conditionOf}
+use Rattle.paper.specs.Frost.{floor, orZero, frostAfter, notDry, counted}
 use Rattle.paper.specs.Outflow.{outflow}
 use Rattle.paper.specs.CellDay.{today, figureOf, netOf, storeOf}
 use Rattle.paper.specs.Refusals.{
@@ -47,12 +48,16 @@ told = 7 ∷ 0 ∷ 41 ∷ 42 ∷ 43 ∷ 44 ∷ 61 ∷ 62 ∷ 63 ∷ 64 ∷ 71 �
 abbrev lake : List ℕ
 lake = 9 ∷ 1 ∷ 30 ∷ 30 ∷ 30 ∷ 30 ∷ 0 ∷ 0 ∷ 0 ∷ 0 ∷ 0 ∷ 0 ∷ 0 ∷ 0 ∷ 0 ∷ 0 ∷ []
 
+abbrev climate : ℕ → ℕ → ℕ → ℕ → Climate
+climate first last reached frozen =
+    record { season = record { first = first; last = last }; setpoints = record { first = reached; second = frozen } }
+
 -- two cells in a row, the left one draining to the right one, which is a closed depression
 abbrev two : List ℕ → List ℕ → List ℕ → List ℕ → List ℕ → Setup
 two covers direction cover group available =
     record {
       grid = record { width = 2; height = 1 };
-      season = record { first = 120; last = 270 };
+      climate = climate 120 270 56000 83000;
       covers = covers;
       direction = direction;
       cover = cover;
@@ -85,6 +90,9 @@ weather minimum mean maximum = dayFits (day 1 1 0 minimum mean maximum 0)
 abbrev memory : ℕ → ℕ → ℕ → ℕ → ℕ → Memory
 memory a b c d e = record { oldest = a; fourth = b; third = c; second = d; yesterday = e }
 
+abbrev frosty : ℕ → Past
+frosty index = record { memory = noRain; last = none; frost = index }
+
 abbrev state : List ℕ → List ℕ → State
 state soil snow = record { soil = soil; snow = snow; past = noPast }
 
@@ -97,6 +105,9 @@ onTheLimits =
     gridFits (record { width = 1; height = 1 }) ∷ gridFits (record { width = 64; height = 64 }) ∷ gridFits (record { width = 4096; height = 1 })
     ∷ seasonFits (record { first = 1; last = 366 }) ∷ seasonFits (record { first = 366; last = 366 }) ∷ seasonFits (record { first = 1; last = 1 })
     ∷ growing (record { first = 100; last = 200 }) 100 ∷ growing (record { first = 100; last = 200 }) 200
+    -- the setpoints
+    ∷ setpointsFit (record { first = 0; second = 0 }) ∷ setpointsFit (record { first = 0; second = 2000000 })
+    ∷ setpointsFit (record { first = 2000000; second = 2000000 }) ∷ climateFits (climate 120 270 56000 83000)
     -- the cover table: its size, and each number of an entry
     ∷ sizeFits told ∷ sizeFits (replicate 1024 0)
     ∷ entry 0 1 ∷ entry 0 255 ∷ entry 1 0 ∷ entry 1 1
@@ -109,7 +120,7 @@ onTheLimits =
     ∷ dayFits (day 0 1 400000 (pos 0) (pos 0) (pos 0) 20000) ∷ dayFits (day 9999999 366 0 (pos 0) (pos 0) (pos 0) 0)
     ∷ fallsAsSnow (pos 279) (pos 360) (pos 399) ∷ weather (negsuc 999) (negsuc 999) (negsuc 999) ∷ weather (pos 1500) (pos 1500) (pos 1500) ∷ weather (negsuc 999) (pos 0) (pos 1500)
     -- the state
-    ∷ lastFits none ∷ lastFits (serial 0) ∷ lastFits (serial 9999999) ∷ memoryFits (memory 400000 400000 400000 400000 400000)
+    ∷ lastFits none ∷ lastFits (serial 0) ∷ lastFits (serial 9999999) ∷ memoryFits (memory 400000 400000 400000 400000 400000) ∷ pastFits (frosty 2500000)
     ∷ follows none 0 ∷ follows none 9999999 ∷ follows (serial 0) 1 ∷ follows (serial 9999998) 9999999
     ∷ storesFit plain (state (8200 ∷ 8200 ∷ []) (10000000 ∷ 0 ∷ [])) 0 ∷ storesFit lakes (state (0 ∷ 0 ∷ []) (0 ∷ 0 ∷ [])) 1
     ∷ []
@@ -120,6 +131,8 @@ pastTheLimits =
     ∷ seasonFits (record { first = 0; last = 366 }) ∷ seasonFits (record { first = 1; last = 367 }) ∷ seasonFits (record { first = 2; last = 1 })
     ∷ seasonFits (record { first = 367; last = 367 }) ∷ seasonFits (record { first = 0; last = 0 })
     ∷ growing (record { first = 100; last = 200 }) 99 ∷ growing (record { first = 100; last = 200 }) 201
+    ∷ setpointsFit (record { first = 2000001; second = 2000001 }) ∷ setpointsFit (record { first = 0; second = 2000001 })
+    ∷ setpointsFit (record { first = 1; second = 0 }) ∷ climateFits (climate 120 270 1 0) ∷ climateFits (climate 0 270 0 1)
     ∷ sizeFits [] ∷ sizeFits (0 ∷ told) ∷ sizeFits (replicate 1040 0) ∷ sizeFits (replicate 15 0)
     ∷ entry 0 0 ∷ entry 0 256 ∷ entry 1 2
     ∷ entry 2 29 ∷ entry 3 29 ∷ entry 4 29 ∷ entry 5 29 ∷ entry 2 101 ∷ entry 3 101 ∷ entry 4 101 ∷ entry 5 101
@@ -132,7 +145,7 @@ pastTheLimits =
     ∷ weather (negsuc 1000) (pos 0) (pos 0) ∷ weather (pos 0) (pos 0) (pos 1501) ∷ weather (pos 1) (pos 0) (pos 0) ∷ weather (pos 0) (pos 1) (pos 0)
     ∷ fallsAsSnow (pos 279) (pos 361) (pos 401) ∷ lastFits (serial 10000000)
     ∷ memoryFits (memory 400001 0 0 0 0) ∷ memoryFits (memory 0 400001 0 0 0) ∷ memoryFits (memory 0 0 400001 0 0)
-    ∷ memoryFits (memory 0 0 0 400001 0) ∷ memoryFits (memory 0 0 0 0 400001)
+    ∷ memoryFits (memory 0 0 0 400001 0) ∷ memoryFits (memory 0 0 0 0 400001) ∷ pastFits (frosty 2500001)
     ∷ follows (serial 0) 0 ∷ follows (serial 0) 2 ∷ follows (serial 5) 5 ∷ follows (serial 5) 7
     ∷ storesFit plain (state (8201 ∷ 0 ∷ []) (0 ∷ 0 ∷ [])) 0 ∷ storesFit plain (state (0 ∷ 0 ∷ []) (10000001 ∷ 0 ∷ [])) 0
     ∷ storesFit lakes (state (0 ∷ 1 ∷ []) (0 ∷ 0 ∷ [])) 1 ∷ storesFit lakes (state (0 ∷ 0 ∷ []) (0 ∷ 1 ∷ [])) 1
@@ -203,21 +216,23 @@ pub record Edges : Type 0 where
   pub sum-of-five : fiveDays (memory 1 20 300 4000 50000) ≡ 54321
   -- the zeros
   pub no-totals : noTotals ≡ record { gross = 0; intercepted = 0; evapotranspired = 0; recharged = 0; rejected = 0; gone = 0; stored = 0 }
-  pub no-past : noPast ≡ record { memory = memory 0 0 0 0 0; last = none }
+  pub no-past : noPast ≡ record { memory = memory 0 0 0 0 0; last = none; frost = 0 }
   pub fresh : freshState plain ≡ state (8200 ∷ 8200 ∷ []) (0 ∷ 0 ∷ [])
   -- each refusal's number and place
   pub taken : answer plain full 2 warm ≡ at 0 0
-  pub no-grid : answer (record { grid = record { width = 2; height = 0 }; season = plain .season; covers = plain .covers; direction = []; cover = []; group = []; available = [] }) full 2 warm ≡ at 1 0
+  pub no-grid : answer (record { grid = record { width = 2; height = 0 }; climate = plain .climate; covers = plain .covers; direction = []; cover = []; group = []; available = [] }) full 2 warm ≡ at 1 0
   pub lent-short : answer plain full 1 warm ≡ at 2 0
   pub table-empty : answer (two [] (1 ∷ 0 ∷ []) (7 ∷ 7 ∷ []) (2 ∷ 2 ∷ []) (100 ∷ 100 ∷ [])) full 2 warm ≡ at 3 0
   pub table-order : answer (two (told ++ told) (1 ∷ 0 ∷ []) (7 ∷ 7 ∷ []) (2 ∷ 2 ∷ []) (100 ∷ 100 ∷ [])) full 2 warm ≡ at 3 1
   pub no-code : answer (two told (1 ∷ 0 ∷ []) (7 ∷ 8 ∷ []) (2 ∷ 2 ∷ []) (100 ∷ 100 ∷ [])) full 2 warm ≡ at 4 1
   pub ring : answer (two told (1 ∷ 16 ∷ []) (7 ∷ 7 ∷ []) (2 ∷ 2 ∷ []) (100 ∷ 100 ∷ [])) full 2 warm ≡ at 5 0
-  pub no-season : answer (record { grid = plain .grid; season = record { first = 1; last = 367 }; covers = plain .covers; direction = plain .direction; cover = plain .cover; group = plain .group; available = plain .available }) full 2 warm ≡ at 6 0
+  pub no-season : answer (record { grid = plain .grid; climate = climate 1 367 56000 83000; covers = plain .covers; direction = plain .direction; cover = plain .cover; group = plain .group; available = plain .available }) full 2 warm ≡ at 6 0
+  pub no-setpoints : answer (record { grid = plain .grid; climate = climate 120 270 83000 56000; covers = plain .covers; direction = plain .direction; cover = plain .cover; group = plain .group; available = plain .available }) full 2 warm ≡ at 6 0
   pub no-day : answer plain full 2 (day 1 150 400001 (pos 600) (pos 700) (pos 800) 100) ≡ at 7 0
-  pub gap : answer plain (record { soil = full .soil; snow = full .snow; past = record { memory = noRain; last = serial 5 } }) 2 warm ≡ at 8 0
+  pub gap : answer plain (record { soil = full .soil; snow = full .snow; past = record { memory = noRain; last = serial 5; frost = 0 } }) 2 warm ≡ at 8 0
   pub too-wet : answer plain (state (8200 ∷ 8201 ∷ []) (0 ∷ 0 ∷ [])) 2 warm ≡ at 9 1
-  pub bad-memory : answer plain (record { soil = full .soil; snow = full .snow; past = record { memory = memory 0 0 400001 0 0; last = none } }) 2 warm ≡ at 9 2
+  pub bad-memory : answer plain (record { soil = full .soil; snow = full .snow; past = record { memory = memory 0 0 400001 0 0; last = none; frost = 0 } }) 2 warm ≡ at 9 2
+  pub bad-frost : answer plain (record { soil = full .soil; snow = full .snow; past = frosty 2500001 }) 2 warm ≡ at 9 2
   -- 400,000 less the dormant 72 is 399,928: 10,000,000 itself is fine
   pub deep-enough : answer plain (state (0 ∷ 0 ∷ []) (0 ∷ 9600072 ∷ [])) 2 frost ≡ at 0 0
   pub too-deep : answer plain (state (0 ∷ 0 ∷ []) (0 ∷ 9600073 ∷ [])) 2 frost ≡ at 10 1
@@ -225,8 +240,8 @@ pub record Edges : Type 0 where
 pub edges : Edges
 unfolding
     made orAt lowest isFound some sum given walk onRing entries sizeFits groupFits rises entryFits wayOf stepped cellAt goesBy cell cellsOf gridFits
-    seasonFits growing placeOr entryOf cellFits isOpen goes pointed next isClosed remembered fiveDays mostSoilOf mostSnowOf storesFit memoryFits
-    lastFits pastFits dayFits follows freshState intercepted net fallsAsSnow aboveFreezing meltable class conditionOf today figureOf netOf storeOf
+    seasonFits setpointsFit climateFits growing placeOr entryOf cellFits isOpen goes pointed next isClosed remembered fiveDays mostSoilOf mostSnowOf storesFit memoryFits
+    lastFits pastFits dayFits follows freshState intercepted net fallsAsSnow aboveFreezing meltable class conditionOf floor orZero frostAfter notDry counted today figureOf netOf storeOf
     numberOf placeOf verdictNumber verdictPlace single judged verdict oneEach setupLengths coverPlaces coverFits mapTests setupTests stateFits
     tooDeep dayTests lengthsOf verdictOf
 edges =
@@ -254,10 +269,12 @@ edges =
       no-code = refl;
       ring = refl;
       no-season = refl;
+      no-setpoints = refl;
       no-day = refl;
       gap = refl;
       too-wet = refl;
       bad-memory = refl;
+      bad-frost = refl;
       deep-enough = refl;
       too-deep = refl;
     }

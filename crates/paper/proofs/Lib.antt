@@ -6,6 +6,7 @@ pub mod FlowLaws
 pub mod ArrivalLaws
 pub mod RefusalLaws
 pub mod DirectionLaws
+pub mod FrostLaws
 pub mod StateLaws
 pub mod SnowLaws
 pub mod CurveNumberLaws
@@ -16,3 +17,4 @@ pub mod AccountLaws
 pub mod RunLaws
 pub mod StarredFigures
 pub mod EdgeFigures
+pub mod FrostFigures

@@ -18,7 +18,7 @@ use Rattle.paper.specs.Refusals.{
   coverTable,
   cellNumbers,
   ring,
-  season,
+  climate,
   dayRecord,
   serialGap,
   stateAt,
@@ -137,7 +137,7 @@ verdictFrom number place =
     (cond (eqb number 3) (refused (coverTable place))
     (cond (eqb number 4) (refused (cellNumbers place))
     (cond (eqb number 5) (refused (ring place))
-    (cond (eqb number 6) (refused season)
+    (cond (eqb number 6) (refused climate)
     (cond (eqb number 7) (refused dayRecord)
     (cond (eqb number 8) (refused serialGap)
     (cond (eqb number 9) (refused (stateAt place))
@@ -151,7 +151,7 @@ from-both (refused lent) = refl
 from-both (refused (coverTable e)) = refl
 from-both (refused (cellNumbers i)) = refl
 from-both (refused (ring i)) = refl
-from-both (refused season) = refl
+from-both (refused climate) = refl
 from-both (refused dayRecord) = refl
 from-both (refused serialGap) = refl
 from-both (refused (stateAt i)) = refl

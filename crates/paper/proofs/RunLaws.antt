@@ -1,7 +1,7 @@
 -- Demand 3. On one day the wetter state's cells pass on no less water, so that no less arrives below them, and every figure of every cell is
 -- no smaller; both days have the same gross precipitation and intercept the same, so that by the two accounts the extra stored before is
 -- the extra that leaves and the extra stored after. A run keeps both, day by day.
-use mathlib.Core.Path.{_≡_, sym, ap, _∙_, subst}
+use mathlib.Core.Path.{_≡_, refl, sym, ap, _∙_, subst}
 use mathlib.Core.List.{List, [], _∷_}
 use Prim.Native.Nat.{ℕ, zero, suc, _+_, _-_, _≤_, _<_, zero-le}
 use native.Mathlib.Nat.{le-refl, add-sub-of-le, add-le-add, not-suc-le-zero, le-of-suc-le-suc}
@@ -13,11 +13,12 @@ use Rattle.theory.proofs.Cases.{below-or-not}
 use Rattle.theory.proofs.ListLaws.{made-at, made-length}
 use Rattle.theory.proofs.SumLaws.{sum-cong, sum-le, given-le}
 use Rattle.paper.specs.CurveNumber.{curveNumber}
+use Rattle.paper.specs.Frost.{frostAfter}
 use Rattle.paper.specs.Setup.{Setup, cell, cells, next}
-use Rattle.paper.specs.State.{State, Day, Past, remembered, serial, mostSoilOf, soilAt, snowAt}
+use Rattle.paper.specs.State.{State, Day, Past, pastAfter, mostSoilOf, soilAt, snowAt}
 use Rattle.paper.specs.CellDay.{Today, today, passedOf, Figures}
 use Rattle.paper.specs.Refusals.{accepted}
-use Rattle.paper.specs.Day.{own, passed, inflow, figures, isGone, Results, totalsOf, resultsOf, nextState, verdictOf, figuresOf, outcomeAs}
+use Rattle.paper.specs.Day.{own, passed, inflow, figures, isGone, Results, totalsOf, resultsOf, nextState, verdictOf, figuresOf, outcomeAs, dayOf}
 use Rattle.paper.specs.Run.{Standing, start, afterDay, oneDay, days, Accepted, stored, Wetter, NoSmaller, Demand3}
 use Rattle.paper.proofs.CellDayLaws.{raining, Rises, passed-rises, own-rises, cell-rises, day-intercepted}
 use Rattle.paper.proofs.FlowLaws.{arriving-rises}
@@ -58,23 +59,23 @@ module _ (s : Setup) (a b : State) (ra rb : Results) (d : Day) (oka : SoundDay s
   g = figuresOf s b d
 
   both : (i : ℕ) → i < cells s → (P : Figures → Figures → Type 0)
-      → P (figures s a (today (s .season) (a .past) d) i) (figures s b (today (s .season) (a .past) d) i) → P (f i) (g i)
+      → P (figures s a (today (s .climate) (a .past) d) i) (figures s b (today (s .climate) (a .past) d) i) → P (f i) (g i)
   unfolding figuresOf
   both i h P =
-      subst (λ (m : Past). P (figures s a (today (s .season) (a .past) d) i) (figures s b (today (s .season) m d) i)) (wet .past)
+      subst (λ (m : Past). P (figures s a (today (s .climate) (a .past) d) i) (figures s b (today (s .climate) m d) i)) (wet .past)
 
   day-rises : (i : ℕ) → i < cells s → Rises (f i) (g i)
   unfolding today
   day-rises i h =
       both i h Rises
-      (figures-rise s a b (today (s .season) (a .past) d) (d .gross) (d .gross) (le-refl (d .gross)) (wet .soil) (wet .snow)
+      (figures-rise s a b (today (s .climate) (a .past) d) (d .gross) (d .gross) (le-refl (d .gross)) (wet .soil) (wet .snow)
       (okb .soil) (small s a ra d oka) i h)
 
   same-intercepted : sum (cells s) (λ i. f i .intercepted) ≡ sum (cells s) (λ i. g i .intercepted)
   unfolding figures
   same-intercepted =
       sum-cong (cells s) _ _ (λ i h. both i h (λ p q. p .intercepted ≡ q .intercepted)
-      (day-intercepted (cell s i) (today (s .season) (a .past) d) _ _ _ ∙ sym (day-intercepted (cell s i) (today (s .season) (a .past) d) _ _ _)))
+      (day-intercepted (cell s i) (today (s .climate) (a .past) d) _ _ _ ∙ sym (day-intercepted (cell s i) (today (s .climate) (a .past) d) _ _ _)))
 
   -- what leaves the grid's soil and snow in a day
   abbrev leaving : (ℕ → Figures) → ℕ
@@ -107,7 +108,7 @@ module _ (s : Setup) (a b : State) (ra rb : Results) (d : Day) (oka : SoundDay s
       record {
         soil = no-smaller (λ x. x .soil) (λ x y up. up .soil);
         snow = no-smaller (λ x. x .snow) (λ x y up. up .snow);
-        past = ap (λ (m : Past). record { memory = remembered (m .memory) (d .gross); last = serial (d .serial) }) (wet .past);
+        past = ap (λ (p : Past). pastAfter p d) (wet .past);
       }
 
 -- what a run keeps, day by day: the second is ahead in every sum and store, and the extra at the start is accounted for
@@ -214,6 +215,21 @@ module _ (s : Setup) (firstStart secondStart : State) where
         onward ds (oneDay s x d) (oneDay s y d)
         (one-more x y d ahead (sym (verdict-is s (x .state) (x .results) d) ∙ ax .0) (sym (verdict-is s (y .state) (y .results) d) ∙ ay .0) .0)
         (ax .1) (ay .1) k (le-of-suc-le-suc h)
+
+-- Snow does not insulate, so that equal starting indexes stay equal, whatever else the two states hold
+frost-next : (s : Setup) (run : Standing) (d : Day) → dayOf s (run .state) (run .results) d .verdict ≡ accepted
+    → oneDay s run d .state .past .frost ≡ frostAfter (run .state .past .frost) (d .mean)
+unfolding oneDay afterDay outcomeAs nextState
+frost-next s run d e =
+    rw (accepted-is s (run .state) (run .results) d (sym (verdict-is s (run .state) (run .results) d) ∙ e)) refl
+
+pub same-frost : (s : Setup) (ds : List Day) (x y : Standing) → x .state .past .frost ≡ y .state .past .frost → Accepted s x ds → Accepted s y ds
+    → days s x ds .state .past .frost ≡ days s y ds .state .past .frost
+unfolding Accepted days
+same-frost s [] x y e ax ay = e
+same-frost s (d ∷ ds) x y e ax ay =
+    same-frost s ds (oneDay s x d) (oneDay s y d)
+    (frost-next s x d (ax .0) ∙ ap (λ (index : ℕ). frostAfter index (d .mean)) e ∙ sym (frost-next s y d (ay .0))) (ax .1) (ay .1)
 
 -- Demand 3: after each day k, from 0, of any list of days that is accepted in both runs
 pub demand-3 : (s : Setup) (first second : State) (firstLent secondLent : Results) (ds : List Day) → Wetter first second

@@ -18,7 +18,7 @@ use Rattle.theory.proofs.WayLaws.{ring-free, free-order}
 use Rattle.paper.specs.Limits.{mostCells, mostInterception}
 use Rattle.paper.specs.Covers.{entries, sizeFits, entryFits, groupFits, codeOf, growingOf, dormantOf}
 use Rattle.paper.specs.Directions.{Step, less, same, more, Way, toward, closed, stepped, Goes, to, leaves, stays, openWater, cellAt, goesBy, wayOf}
-use Rattle.paper.specs.Setup.{Setup, Cell, cell, cells, cellsOf, gridFits, seasonFits, coverOf, groupOf, entryOf, placeOr, cellFits, isOpen, goes, pointed, isClosed, next}
+use Rattle.paper.specs.Setup.{Setup, Cell, cell, cells, cellsOf, gridFits, climateFits, coverOf, groupOf, entryOf, placeOr, cellFits, isOpen, goes, pointed, isClosed, next}
 use Rattle.paper.specs.Refusals.{Refusal, Test, accepted, verdict, single, oneEach, coverPlaces, coverFits, setupTests, mapTests}
 use Rattle.paper.proofs.RefusalLaws.{Passes, testAt, accepted-passes}
 
@@ -36,7 +36,7 @@ pub record Sound (s : Setup) (lengths : List ℕ) : Type 0 where
   pub charted : Charted s
   pub lent : oneEach (cells s) lengths ≡ true
   pub ringless : (i : ℕ) → i < cells s → onRing (cells s) (next s) i ≡ false
-  pub seasoned : seasonFits (s .season) ≡ true
+  pub climate : climateFits (s .climate) ≡ true
 
 single-passes : (fits : Bool) (r : Refusal) → Passes (single fits r) → fits ≡ true
 unfolding Passes single
@@ -73,7 +73,7 @@ module _ (s : Setup) (lengths : List ℕ) (more : List Test) (e : verdict (setup
             };
         lent = single-passes _ _ (passes 1 (lit< tt));
         ringless = passes 4 (lit< tt);
-        seasoned = single-passes _ _ (passes 5 (lit< tt));
+        climate = single-passes _ _ (passes 5 (lit< tt));
       }
 
 -- a cell that points to a cell points inside the grid

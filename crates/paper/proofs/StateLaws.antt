@@ -1,4 +1,4 @@
--- The memory holds the five previous days and no other, today's condition goes by them alone, and a fresh state is within the limits.
+-- The memory holds the five previous days and no other, today's rain has no say in today's condition, and a fresh state is within the limits.
 use mathlib.Core.Path.{_≡_, refl}
 use mathlib.Core.Bool.{true}
 use Prim.Native.Nat.{ℕ, suc, _<_, _≤_, zero-le}
@@ -7,7 +7,7 @@ use lib.Dec.{ltb}
 use borrow.Author.Tests.{le-leb, ltb-true}
 use Rattle.theory.proofs.Cases.{byCases, and-both, cond-true, cond-false}
 use Rattle.theory.proofs.ListLaws.{made-at}
-use Rattle.paper.specs.Setup.{Setup, Season, cell, cells}
+use Rattle.paper.specs.Setup.{Setup, Climate, cell, cells}
 use Rattle.paper.specs.State.{Day, Memory, Past, remembered, freshState, mostSoilOf, mostSnowOf, soilAt, snowAt, storesFit, memoryFits, lastFits, pastFits}
 use Rattle.paper.specs.CellDay.{today}
 use Rattle.paper.specs.Refusals.{stateFits}
@@ -20,10 +20,10 @@ unfolding remembered
 five-days m a b c d e = refl
 
 -- today's gross precipitation is not counted in the condition
-pub today-not-counted : (s : Season) (p : Past) (d e : Day) → d .dayOfYear ≡ e .dayOfYear
-    → today s p d .condition ≡ today s p e .condition
+pub today-not-counted : (c : Climate) (p : Past) (d e : Day) → d .dayOfYear ≡ e .dayOfYear → d .mean ≡ e .mean
+    → today c p d .condition ≡ today c p e .condition
 unfolding today
-today-not-counted s p d e same = rw same refl
+today-not-counted c p d e same mean = rw (same, mean) refl
 
 pub fresh-fits : (s : Setup) (i : ℕ) → i < suc (cells s) → stateFits s (freshState s) i ≡ true
 unfolding stateFits freshState storesFit pastFits memoryFits lastFits

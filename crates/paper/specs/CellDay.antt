@@ -2,11 +2,12 @@
 use mathlib.Core.Bool.{Bool, cond, not}
 use Prim.Native.Nat.{ℕ, _+_, _-_}
 use Rattle.theory.specs.Sums.{given}
-use Rattle.paper.specs.Setup.{Season, Cell, growing}
+use Rattle.paper.specs.Setup.{Climate, Cell, growing}
 use Rattle.paper.specs.State.{Past, Day, fiveDays}
 use Rattle.paper.specs.Interception.{intercepted, net}
 use Rattle.paper.specs.Snow.{fallsAsSnow, meltable, melt}
 use Rattle.paper.specs.CurveNumber.{Condition, conditionOf, curveNumber}
+use Rattle.paper.specs.Frost.{frostAfter, counted}
 use Rattle.paper.specs.Outflow.{outflow}
 use Rattle.paper.specs.Soil.{SoilDay, soilDay}
 
@@ -21,15 +22,18 @@ pub record Today : Type 0 where
   pub meltable : ℕ
   pub condition : Condition
 
-unfoldable pub today : Season → Past → Day → Today
-today s p d =
+-- the frost index that the day has just set decides its condition
+unfoldable pub today : Climate → Past → Day → Today
+today c p d =
     record {
       gross = d .gross;
       potential = d .potential;
-      growing? = growing s (d .dayOfYear);
+      growing? = growing (c .season) (d .dayOfYear);
       snows? = fallsAsSnow (d .minimum) (d .mean) (d .maximum);
       meltable = meltable (d .maximum);
-      condition = conditionOf (growing s (d .dayOfYear)) (fiveDays (p .memory));
+      condition =
+          counted (c .setpoints) (frostAfter (p .frost) (d .mean))
+          (conditionOf (growing (c .season) (d .dayOfYear)) (fiveDays (p .memory)));
     }
 
 -- rule 2, by the season

@@ -16,7 +16,7 @@ use Rattle.paper.specs.Refusals.{Verdict, accepted, refused, verdict, se
 unfoldable pub checkOf : Setup → Verdict
 checkOf s = verdict (setupTests s (setupLengths s))
 
--- a fresh state in lent stores: refused, the stores are as lent, with five zeros and none
+-- a fresh state in lent stores: refused, the stores are as lent, with five zeros, none and no frost
 pub record Fresh : Type 0 where
   pub verdict : Verdict
   pub state : State
@@ -129,7 +129,7 @@ unfoldable pub verdictOf : Setup → State → Results → Day → Verdict
 verdictOf s st r d = verdict (setupTests s (lengthsOf s st r) ++ dayTests s st d)
 
 unfoldable pub figuresOf : Setup → State → Day → ℕ → Figures
-figuresOf s st d = figures s st (today (s .season) (st .past) d)
+figuresOf s st d = figures s st (today (s .climate) (st .past) d)
 
 unfoldable pub outcomeAs : Setup → State → Results → Day → Verdict → Outcome
 outcomeAs s st r d accepted =

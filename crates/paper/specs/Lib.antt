@@ -1,4 +1,4 @@
--- Document 01, in its order.
+-- Document 01, in its order, as document 02 amends it.
 pub mod Limits
 pub mod Covers
 pub mod Directions
@@ -7,6 +7,7 @@ pub mod State
 pub mod Interception
 pub mod Snow
 pub mod CurveNumber
+pub mod Frost
 pub mod Outflow
 pub mod Retention
 pub mod Soil

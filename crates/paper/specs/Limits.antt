@@ -1,4 +1,4 @@
--- The limits of document 01. A depth is in units of 0.0001 inch, a temperature in tenths of a degree Fahrenheit.
+-- The limits of documents 01 and 02. A depth is in units of 0.0001 inch, a temperature in tenths of a degree Fahrenheit.
 use mathlib.Core.Bool.{Bool, _&&_}
 use Prim.Native.Nat.{ℕ}
 use lib.Dec.{leb}
@@ -38,6 +38,10 @@ mostRootDepth = 1000
 abbrev pub mostAvailableWater : ℕ
 mostAvailableWater = 600
 
+-- the setpoints of the frost index, in thousandths of a Celsius degree-day
+abbrev pub mostSetpoint : ℕ
+mostSetpoint = 2000000
+
 -- State and the day record
 abbrev pub mostSnow : ℕ
 mostSnow = 10000000
@@ -47,6 +51,10 @@ mostGross = 400000
 
 abbrev pub mostSerial : ℕ
 mostSerial = 9999999
+
+-- thousandths of a Celsius degree-day
+abbrev pub mostFrost : ℕ
+mostFrost = 2500000
 
 abbrev pub leastTemperature : ℤ
 leastTemperature = negsuc 999

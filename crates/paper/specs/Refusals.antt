@@ -8,7 +8,7 @@ use Rattle.theory.specs.Lowest.{Found, at, nowhere, lowest}
 use Rattle.theory.specs.Ways.{onRing}
 use Rattle.paper.specs.Limits.{mostSnow}
 use Rattle.paper.specs.Covers.{sizeFits, entries, entryFits}
-use Rattle.paper.specs.Setup.{Setup, Cell, cell, cells, gridFits, seasonFits, cellFits, next}
+use Rattle.paper.specs.Setup.{Setup, Cell, cell, cells, gridFits, climateFits, cellFits, next}
 use Rattle.paper.specs.State.{State, Day, storesFit, pastFits, dayFits, follows, snowAt}
 use Rattle.paper.specs.CellDay.{Today, today, storeOf}
 
@@ -19,7 +19,7 @@ pub data Refusal : Type 0 where
   coverTable : ℕ → Refusal
   cellNumbers : ℕ → Refusal
   ring : ℕ → Refusal
-  season : Refusal
+  climate : Refusal
   dayRecord : Refusal
   serialGap : Refusal
   stateAt : ℕ → Refusal
@@ -32,7 +32,7 @@ numberOf lent = 2
 numberOf (coverTable e) = 3
 numberOf (cellNumbers i) = 4
 numberOf (ring i) = 5
-numberOf season = 6
+numberOf climate = 6
 numberOf dayRecord = 7
 numberOf serialGap = 8
 numberOf (stateAt i) = 9
@@ -45,7 +45,7 @@ placeOf lent = 0
 placeOf (coverTable e) = e
 placeOf (cellNumbers i) = i
 placeOf (ring i) = i
-placeOf season = 0
+placeOf climate = 0
 placeOf dayRecord = 0
 placeOf serialGap = 0
 placeOf (stateAt i) = i
@@ -108,14 +108,14 @@ mapTests s =
     coverTest (s .covers)
     ∷ record { places = cells s; fails = λ i. not (cellFits s i); called = cellNumbers }
     ∷ record { places = cells s; fails = λ i. onRing (cells s) (next s) i; called = ring }
-    ∷ single (seasonFits (s .season)) season
+    ∷ single (climateFits (s .climate)) climate
     ∷ []
 
 -- tests 1 to 6, with the lengths of the lent slices
 unfoldable pub setupTests : Setup → List ℕ → List Test
 setupTests s lengths = single (gridFits (s .grid)) grid ∷ single (oneEach (cells s) lengths) lent ∷ mapTests s
 
--- 9: each cell's stores, then the memory and the last serial at the cell count
+-- 9: each cell's stores, then the memory, the last serial and the frost index at the cell count
 unfoldable pub stateFits : Setup → State → ℕ → Bool
 stateFits s st i = cond (ltb i (cells s)) (storesFit s st i) (pastFits (st .past))
 
@@ -131,7 +131,7 @@ dayTests s st d =
     ∷ record { places = suc (cells s); fails = λ i. not (stateFits s st i); called = stateAt }
     ∷ record {
       places = cells s;
-      fails = λ i. tooDeep (cell s i) (today (s .season) (st .past) d) (snowAt st i);
+      fails = λ i. tooDeep (cell s i) (today (s .climate) (st .past) d) (snowAt st i);
       called = snowfall;
     }
     ∷ []

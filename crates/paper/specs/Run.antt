@@ -50,7 +50,7 @@ Accepted s run (d ∷ ds) =
 unfoldable pub stored : Setup → State → ℕ
 stored s st = sum (cells s) (λ i. soilAt st i + snowAt st i)
 
--- states alike except that the second holds at least as much soil water and snow in every cell
+-- states alike, their frost indexes too, except that the second holds at least as much soil water and snow in every cell
 pub record Wetter (first second : State) : Type 0 where
   pub soil : (i : ℕ) → soilAt first i ≤ soilAt second i
   pub snow : (i : ℕ) → snowAt first i ≤ snowAt second i

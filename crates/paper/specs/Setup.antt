@@ -1,11 +1,11 @@
--- The setup: grid, season, cover table and cells, and what the rules read of one cell.
+-- The setup: grid, season, setpoints of the frost index, cover table and cells, and what the rules read of one cell.
 use mathlib.Core.Bool.{Bool, cond, _&&_}
 use mathlib.Core.List.{List}
 use Prim.Native.Nat.{ℕ, suc, _*_}
 use lib.Dec.{eqb, leb}
 use lib.ListN.{getD}
 use Rattle.theory.specs.Lowest.{Found, at, nowhere, lowest, some}
-use Rattle.paper.specs.Limits.{within, mostCells, lastDayOfYear, mostAvailableWater}
+use Rattle.paper.specs.Limits.{within, mostCells, lastDayOfYear, mostAvailableWater, mostSetpoint}
 use Rattle.paper.specs.Covers.{
   codeOf,
   openOf,
@@ -27,9 +27,19 @@ pub record Season : Type 0 where
   pub first : ℕ
   pub last : ℕ
 
+-- the setpoints of the frost index
+pub record Setpoints : Type 0 where
+  pub first : ℕ
+  pub second : ℕ
+
+-- what the setup says of the whole year
+pub record Climate : Type 0 where
+  pub season : Season
+  pub setpoints : Setpoints
+
 pub record Setup : Type 0 where
   pub grid : Grid
-  pub season : Season
+  pub climate : Climate
   -- 16 numbers an entry
   pub covers : List ℕ
   -- one entry a cell
@@ -49,6 +59,13 @@ gridFits g = leb 1 (g .width) && leb 1 (g .height) && leb (cellsOf g) mostCells
 
 unfoldable pub seasonFits : Season → Bool
 seasonFits s = within 1 lastDayOfYear (s .first) && within 1 lastDayOfYear (s .last) && leb (s .first) (s .last)
+
+-- 0 to 2,000,000, first not above second
+unfoldable pub setpointsFit : Setpoints → Bool
+setpointsFit s = leb (s .first) mostSetpoint && leb (s .second) mostSetpoint && leb (s .first) (s .second)
+
+unfoldable pub climateFits : Climate → Bool
+climateFits c = seasonFits (c .season) && setpointsFit (c .setpoints)
 
 -- the day of the year is a growing day: both ends count
 unfoldable pub growing : Season → ℕ → Bool

@@ -14,11 +14,13 @@ use Rattle.paper.specs.Limits.{
   mostSnow,
   mostGross,
   mostSerial,
+  mostFrost,
   leastTemperature,
   mostTemperature,
   mostPotential,
 }
 use Rattle.paper.specs.Setup.{Setup, Cell, cell, cells}
+use Rattle.paper.specs.Frost.{frostAfter}
 
 -- the gross precipitation of the five previous days
 pub record Memory : Type 0 where
@@ -48,10 +50,12 @@ pub data Last : Type 0 where
 pub record Past : Type 0 where
   pub memory : Memory
   pub last : Last
+  -- the frost index of the whole grid
+  pub frost : ℕ
 
--- five zeros, and none
+-- five zeros, none, and no frost
 abbrev pub noPast : Past
-noPast = record { memory = noRain; last = none }
+noPast = record { memory = noRain; last = none; frost = 0 }
 
 pub record State : Type 0 where
   -- one entry a cell
@@ -69,9 +73,10 @@ pub record Day : Type 0 where
   -- potential evapotranspiration
   pub potential : ℕ
 
--- after an accepted day: its gross figure is remembered, and its serial is the last
+-- after an accepted day: its gross figure is remembered, its serial is the last, and the frost index is the one that it set
 abbrev pub pastAfter : Past → Day → Past
-pastAfter p d = record { memory = remembered (p .memory) (d .gross); last = serial (d .serial) }
+pastAfter p d =
+    record { memory = remembered (p .memory) (d .gross); last = serial (d .serial); frost = frostAfter (p .frost) (d .mean) }
 
 -- soil 0 to the cell's capacity, 0 on open water
 unfoldable pub mostSoilOf : Cell → ℕ
@@ -103,7 +108,7 @@ lastFits none = true
 lastFits (serial n) = leb n mostSerial
 
 unfoldable pub pastFits : Past → Bool
-pastFits p = memoryFits (p .memory) && lastFits (p .last)
+pastFits p = memoryFits (p .memory) && lastFits (p .last) && leb (p .frost) mostFrost
 
 unfoldable pub dayFits : Day → Bool
 dayFits d =
@@ -122,7 +127,7 @@ unfoldable pub follows : Last → ℕ → Bool
 follows none n = true
 follows (serial m) n = eqb n (m + 1)
 
--- soil full (0 on open water), snow 0, five zeros, none
+-- soil full (0 on open water), snow 0, five zeros, none, no frost
 unfoldable pub freshState : Setup → State
 freshState s =
     record {

@@ -47,7 +47,7 @@ use Rattle.recharge.proofs.FigureLaws.{plot-fits, store-plot, own-plot,
 
 module _ (s : Setup) (st : State) (r : paper.Results) (d : Day) (before ways₀ slots ways order : List ℕ) (t : Today) (blank plots : List ℕ)
     (ok : days.SoundDay s st r d) (m : Mapped s before ways₀ slots ways order)
-    (is-today : t ≡ today (s .season) (st .past) d) (filled : plots ≡ plotsOf t (s .covers) blank) where
+    (is-today : t ≡ today (s .climate) (st .past) d) (filled : plots ≡ plotsOf t (s .covers) blank) where
   chart : Charted s
   chart = ok .setup .charted
 

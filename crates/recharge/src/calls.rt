@@ -10,18 +10,18 @@ use admission::Lengths;
 use admission::admit;
 use covers::PLOT_ROOM;
 use records::Answer;
+use records::Climate;
 use records::DayRecord;
 use records::Grid;
 use records::MOST_CELLS;
 use records::Past;
-use records::Season;
 use records::Verdict;
 
 // One day: tests 1 to 10, then the five results and the two stores of every cell, the totals, the next memory and the serial. A day refused hands
 // back what it was given, and no totals.
 pub fn day(
     grid: Grid,
-    season: Season,
+    climate: Climate,
     covers: &[u32],
     direction: &[u32],
     cover: &[u32],
@@ -39,7 +39,7 @@ pub fn day(
 ) -> Answer
     ensures { λ r. ⌜ outcomeAs r (now (soil .exit)) (now (snow .exit))
         (resultsAs (now (intercepted .exit)) (now (outflow .exit)) (now (evapotranspired .exit)) (now (recharged .exit)) (now (rejected .exit)))
-        ≡ dayOf (setupAs grid season (now (covers .entry)) (now (direction .entry)) (now (cover .entry)) (now (group .entry)) (now (available .entry)))
+        ≡ dayOf (setupAs grid climate (now (covers .entry)) (now (direction .entry)) (now (cover .entry)) (now (group .entry)) (now (available .entry)))
         (stateAs (now (soil .entry)) (now (snow .entry)) past)
         (resultsAs (now (intercepted .entry)) (now (outflow .entry)) (now (evapotranspired .entry)) (now (recharged .entry)) (now (rejected .entry))) (dayAs day) ⌝ }
 {
@@ -56,7 +56,7 @@ pub fn day(
     };
     let tested = admit(
         grid,
-        season,
+        climate,
         covers,
         direction,
         cover,

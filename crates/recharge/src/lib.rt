@@ -10,15 +10,18 @@ mod ways;
 
 pub use calls::day;
 pub use records::Answer;
+pub use records::Climate;
 pub use records::CurveNumber;
 pub use records::DayRecord;
 pub use records::Depth;
+pub use records::FrostIndex;
 pub use records::Grid;
 pub use records::Last;
 pub use records::Memory;
 pub use records::Past;
 pub use records::Refusal;
 pub use records::Season;
+pub use records::Setpoints;
 pub use records::Start;
 pub use records::TenthF;
 pub use records::Totals;

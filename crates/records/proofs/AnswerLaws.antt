@@ -36,11 +36,12 @@ pastIn p =
             yesterday = record { 0 = p .memory .yesterday };
           };
       last = lastIn (p .last);
+      frost = record { 0 = p .frost };
     }
 
 past-forth : (p : Past) → pastIn (pastAs p) ≡ p
 unfolding pastIn
-past-forth p = λ k. record { memory = p .memory; last = last-forth (p .last) k }
+past-forth p = λ k. record { memory = p .memory; last = last-forth (p .last) k; frost = p .frost }
 
 totalsIn : paper.Totals → Totals
 totalsIn t =

@@ -1,4 +1,5 @@
 pub mod Temperatures
+pub mod FrostLaws
 pub mod PlaceLaws
 pub mod VerdictLaws
 pub mod AnswerLaws

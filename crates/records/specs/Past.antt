@@ -22,7 +22,7 @@ lastAs Never = paper.none
 lastAs (Serial n) = paper.serial n
 
 abbrev pub pastAs : Past → paper.Past
-pastAs p = record { memory = memoryAs (p .memory); last = lastAs (p .last) }
+pastAs p = record { memory = memoryAs (p .memory); last = lastAs (p .last); frost = p .frost .0 }
 
 abbrev pub stateAs : List ℕ → List ℕ → Past → paper.State
 stateAs soil snow past = record { soil = soil; snow = snow; past = pastAs past }

@@ -1,8 +1,9 @@
-// The grid and the growing season, with their limits: tests 1 and 6.
+// The grid, the growing season and the setpoints of the frost index, with their limits: tests 1 and 6.
 ghost use mathlib.Core.Path.{_≡_};
-ghost use Rattle.paper.specs.Setup.{cellsOf, gridFits, seasonFits, growing};
-ghost use Rattle.records.specs.Grids.{gridAs, seasonAs};
+ghost use Rattle.paper.specs.Setup.{cellsOf, gridFits, seasonFits, setpointsFit, climateFits, growing};
+ghost use Rattle.records.specs.Grids.{gridAs, seasonAs, setpointsAs, climateAs};
 use crate::lent::index_of;
+use crate::quantities::FrostIndex;
 
 pub struct Grid {
     pub width: u32,
@@ -13,6 +14,18 @@ pub struct Grid {
 pub struct Season {
     pub first: u32,
     pub last: u32,
+}
+
+// From the first on condition I counts as II, from the second on every day as III.
+pub struct Setpoints {
+    pub first: FrostIndex,
+    pub second: FrostIndex,
+}
+
+// What a setup says of the whole year.
+pub struct Climate {
+    pub season: Season,
+    pub setpoints: Setpoints,
 }
 
 pub const MOST_CELLS: usize = 4096;
@@ -49,5 +62,24 @@ impl Season {
         ensures { λ r. ⌜ r ≡ growing (seasonAs self) «day_of_year» ⌝ }
     {
         (self.first <= day_of_year) & (day_of_year <= self.last)
+    }
+}
+
+impl Setpoints {
+    pub fn fit(self) -> bool
+        ensures { λ r. ⌜ r ≡ setpointsFit (setpointsAs self) ⌝ }
+    {
+        let most = FrostIndex::MOST_SETPOINT.0;
+        (self.first.0 <= most) & (self.second.0 <= most) & (self.first.0 <= self.second.0)
+    }
+}
+
+impl Climate {
+    pub fn fits(self) -> bool
+        ensures { λ r. ⌜ r ≡ climateFits (climateAs self) ⌝ }
+    {
+        let season = self.season;
+        let setpoints = self.setpoints;
+        season.fits() & setpoints.fit()
     }
 }

@@ -1,6 +1,7 @@
 // What the office hands over and what comes back: quantities, records and their limits, and verdicts. Every function here answers every input.
 mod answers;
 mod days;
+mod frost;
 mod grids;
 mod lent;
 mod past;
@@ -12,9 +13,12 @@ pub use answers::Answer;
 pub use answers::Start;
 pub use answers::Totals;
 pub use days::DayRecord;
+pub use frost::frost_after;
+pub use grids::Climate;
 pub use grids::Grid;
 pub use grids::MOST_CELLS;
 pub use grids::Season;
+pub use grids::Setpoints;
 pub use lent::depth;
 pub use lent::index_of;
 pub use lent::results_each;
@@ -27,6 +31,7 @@ pub use past::Past;
 pub use places::Place;
 pub use quantities::CurveNumber;
 pub use quantities::Depth;
+pub use quantities::FrostIndex;
 pub use quantities::TenthF;
 pub use verdicts::Refusal;
 pub use verdicts::Verdict;

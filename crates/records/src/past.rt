@@ -1,10 +1,12 @@
-// What a state has besides its stores: the rain memory and the last serial, with their limits, which belong to test 9.
+// What a state has besides its stores: the rain memory, the last serial and the frost index, with their limits, which belong to test 9.
 ghost use mathlib.Core.Path.{_≡_};
 ghost use Rattle.paper.specs.State.{remembered, memoryFits, lastFits, pastFits, noPast, pastAfter, follows};
 ghost use Rattle.records.specs.Past.{memoryAs, lastAs, pastAs};
 ghost use Rattle.records.specs.Days.{dayAs};
 use crate::days::DayRecord;
+use crate::frost::frost_after;
 use crate::quantities::Depth;
+use crate::quantities::FrostIndex;
 
 // The gross precipitation of the five previous days.
 pub struct Memory {
@@ -24,6 +26,7 @@ pub enum Last {
 pub struct Past {
     pub memory: Memory,
     pub last: Last,
+    pub frost: FrostIndex,
 }
 
 impl Memory {
@@ -77,7 +80,7 @@ impl Last {
 }
 
 impl Past {
-    // No rain remembered, and no serial.
+    // No rain remembered, no serial and no frost.
     pub fn none() -> Past
         ensures { λ r. ⌜ pastAs r ≡ noPast ⌝ }
     {
@@ -91,18 +94,22 @@ impl Past {
         Past {
             memory,
             last: Last::Never,
+            frost: FrostIndex(0),
         }
     }
 
-    // After an accepted day: its gross figure is remembered, and its serial is the last.
+    // After an accepted day: its gross figure is remembered, its serial is the last, and the frost index is the one that it set.
     pub fn after(self, day: DayRecord) -> Past
         ensures { λ r. ⌜ pastAs r ≡ pastAfter (pastAs self) (dayAs day) ⌝ }
     {
         let memory = self.memory;
+        let frost = self.frost;
         let gross = day.gross;
+        let mean = day.mean;
         Past {
             memory: memory.next(gross),
             last: Last::Serial(day.serial),
+            frost: frost_after(frost, mean),
         }
     }
 
@@ -111,6 +118,6 @@ impl Past {
     {
         let memory = self.memory;
         let last = self.last;
-        memory.fits() & last.fits()
+        memory.fits() & last.fits() & (self.frost.0 <= FrostIndex::MOST.0)
     }
 }

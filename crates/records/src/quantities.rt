@@ -4,7 +4,7 @@ ghost use mathlib.Core.Path.{_≡_};
 ghost use Prim.Native.Nat.{_-_, _<_, min};
 ghost use Rattle.paper.specs.Snow.{aboveFreezing};
 ghost use Rattle.records.specs.Days.{tenths};
-ghost use Rattle.records.specs.Temperatures.{farthest};
+ghost use Rattle.records.specs.Temperatures.{belowFreezing, farthest};
 
 // Units of 0.0001 inch.
 pub struct Depth(pub u64);
@@ -13,6 +13,9 @@ pub struct Depth(pub u64);
 pub struct TenthF(pub i32);
 
 pub struct CurveNumber(pub u64);
+
+// Thousandths of a Celsius degree-day.
+pub struct FrostIndex(pub u64);
 
 impl Depth {
     pub const MOST_GROSS: Depth = Depth(400000);
@@ -64,10 +67,41 @@ impl TenthF {
         }
         (self.0 - TenthF::FREEZING.0) as u64
     }
+
+    // Tenths below freezing; 0 where it is not. The difference can pass 32 bits.
+    pub fn below_freezing(self) -> u64
+        ensures { λ r. ⌜ (r ≡ belowFreezing (tenths self)) × (r < farthest) ⌝ }
+    {
+        if TenthF::FREEZING.0 <= self.0 {
+            return 0;
+        }
+        (TenthF::FREEZING.0 as i64 - self.0 as i64) as u64
+    }
 }
 
 impl CurveNumber {
     pub const LEAST: CurveNumber = CurveNumber(30);
 
     pub const MOST: CurveNumber = CurveNumber(100);
+}
+
+impl FrostIndex {
+    pub const MOST: FrostIndex = FrostIndex(2500000);
+
+    pub const MOST_SETPOINT: FrostIndex = FrostIndex(2000000);
+
+    // The setpoints of the program `balance`.
+    pub const FIRST_SETPOINT: FrostIndex = FrostIndex(56000);
+
+    pub const SECOND_SETPOINT: FrostIndex = FrostIndex(83000);
+
+    // What a day leaves of it: 97 of each 100.
+    pub const KEPT: u64 = 97;
+
+    pub const KEPT_OF: u64 = 100;
+
+    // One degree-day: a day that is 18 tenths of a degree Fahrenheit below freezing.
+    pub const DEGREE_DAY: FrostIndex = FrostIndex(1000);
+
+    pub const DEGREE_TENTHS: u64 = 18;
 }

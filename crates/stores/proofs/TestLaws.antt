@@ -53,7 +53,7 @@ pub memory-kept : (s : Setup) (st : State) → verdict (ninth s st ∷ []) ≡ a
 unfolding Passes testAt stateFits pastFits
 memory-kept s st v =
     let stands : stateFits s st (cells s) ≡ true = not-false _ (accepted-passes (ninth s st ∷ []) v 0 (zero-lt-suc 0) (cells s) (lt-suc-self (cells s))) in
-    and-left _ _ (sym (cond-false (ltb (cells s) (cells s)) (le-ltb (cells s) (cells s) (le-refl (cells s))) _ _) ∙ stands)
+    and-left _ _ (and-left _ _ (sym (cond-false (ltb (cells s) (cells s)) (le-ltb (cells s) (cells s) (le-refl (cells s))) _ _) ∙ stands))
 
 -- two tests of the same places that fail alike
 alike : (n : ℕ) (f g : ℕ → Bool) (called : ℕ → Refusal) → ((i : ℕ) → i < n → f i ≡ g i)

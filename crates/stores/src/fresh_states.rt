@@ -10,11 +10,11 @@ ghost use Rattle.survey.specs.Charts.{SlotsFit};
 ghost use Rattle.stores.specs.Fresh.{Filled};
 use covers::root_depths;
 use covers::small_index;
+use records::Climate;
 use records::Grid;
 use records::MOST_CELLS;
 use records::Past;
 use records::Refusal;
-use records::Season;
 use records::Start;
 use records::Verdict;
 use records::stores_each;
@@ -52,7 +52,7 @@ fn fill(
 // A fresh state: tests 1 to 6, then soil full (0 on open water), snow 0, five zeros and no serial.
 pub fn fresh(
     grid: Grid,
-    season: Season,
+    climate: Climate,
     covers: &[u32],
     direction: &[u32],
     cover: &[u32],
@@ -62,7 +62,7 @@ pub fn fresh(
     snow: &mut [u32],
 ) -> Start
     ensures { λ r. ⌜ freshAs r (now (soil .exit)) (now (snow .exit)) ≡ freshOf
-        (setupAs grid season (now (covers .entry)) (now (direction .entry)) (now (cover .entry)) (now (group .entry)) (now (available .entry)))
+        (setupAs grid climate (now (covers .entry)) (now (direction .entry)) (now (cover .entry)) (now (group .entry)) (now (available .entry)))
         (now (soil .entry)) (now (snow .entry)) ⌝ }
 {
     if !grid.fits() {
@@ -76,7 +76,7 @@ pub fn fresh(
     let mut order = [0u32; MOST_CELLS];
     let verdict = survey(
         grid,
-        season,
+        climate,
         covers,
         direction,
         cover,

@@ -13,8 +13,8 @@ use Rattle.theory.specs.Ways.{onRing}
 use Rattle.theory.proofs.ListLaws.{made-cong, over-length}
 use Rattle.theory.proofs.LowestLaws.{lowest-none, lowest-cong}
 use Rattle.paper.specs.Covers.{entries}
-use Rattle.paper.specs.Setup.{Setup, cells, cellsOf, cellFits, seasonFits, next}
-use Rattle.paper.specs.Refusals.{Refusal, Verdict, cellNumbers, ring, season, accepted, refused, Test, verdict, single, coverTest, mapTests}
+use Rattle.paper.specs.Setup.{Setup, cells, cellsOf, cellFits, climateFits, next}
+use Rattle.paper.specs.Refusals.{Refusal, Verdict, cellNumbers, ring, climate, accepted, refused, Test, verdict, single, coverTest, mapTests}
 use Rattle.paper.proofs.RefusalLaws.{pass-single, fail-single, pass-many, fail-many, accepted-then, refused-then}
 use Rattle.records.proofs.PlaceLaws.{found-at, found-no}
 use Rattle.records.specs.Verdicts.{refusalIn, verdictIn}
@@ -42,7 +42,7 @@ module _ (s : Setup) where
 
   -- the tests after the cover table's
   abbrev later : List Test
-  later = cellTest ∷ ringTest ∷ single (seasonFits (s .season)) season ∷ []
+  later = cellTest ∷ ringTest ∷ single (climateFits (s .climate)) climate ∷ []
 
   -- a refusal, in the code's own words
   refuse : (lent ways₀ : List ℕ) (why : Refusal) (slots ways order : List ℕ) → verdict (mapTests s) ≡ refused why
@@ -72,19 +72,19 @@ module _ (s : Setup) where
     cell-bad i found = covers-pass ∙ fail-many _ cellTest i found
 
     module _ (fit : lowest (cells s) (λ k. not (cellFits s k)) ≡ nowhere) where
-      cells-pass : verdict (mapTests s) ≡ verdict (ringTest ∷ single (seasonFits (s .season)) season ∷ [])
+      cells-pass : verdict (mapTests s) ≡ verdict (ringTest ∷ single (climateFits (s .climate)) climate ∷ [])
       cells-pass = covers-pass ∙ pass-many _ cellTest fit
 
       ring-bad : (i : ℕ) → lowest (cells s) (onRing (cells s) (next s)) ≡ at i → verdict (mapTests s) ≡ refused (ring i)
       ring-bad i found = cells-pass ∙ fail-many _ ringTest i found
 
       module _ (free : lowest (cells s) (onRing (cells s) (next s)) ≡ nowhere) where
-        season-bad : seasonFits (s .season) ≡ false → verdict (mapTests s) ≡ refused season
-        season-bad e = cells-pass ∙ pass-many _ ringTest free ∙ fail-single _ _ season e
+        climate-bad : climateFits (s .climate) ≡ false → verdict (mapTests s) ≡ refused climate
+        climate-bad e = cells-pass ∙ pass-many _ ringTest free ∙ fail-single _ _ climate e
 
-        all-pass : seasonFits (s .season) ≡ true → verdict (mapTests s) ≡ accepted
+        all-pass : climateFits (s .climate) ≡ true → verdict (mapTests s) ≡ accepted
         unfolding verdict
-        all-pass e = cells-pass ∙ pass-many (single (seasonFits (s .season)) season ∷ []) ringTest free ∙ pass-single [] _ season e
+        all-pass e = cells-pass ∙ pass-many (single (climateFits (s .climate)) climate ∷ []) ringTest free ∙ pass-single [] _ climate e
 
 -- the arrays, stage by stage
 module _ (s : Setup) (lent ways₀ : List ℕ) (pre : Surveyable s) (table : verdict (coverTest (s .covers) ∷ []) ≡ accepted)
@@ -182,10 +182,10 @@ module _ (s : Setup) (lent ways₀ : List ℕ) (pre : Surveyable s) (table : ver
           ordered-by : OrderedBy (cells s) (next s) order
           ordered-by = rw (pre .directions, ways-point) at (o .ordered straight)
 
-          pub season-refuses : seasonFits (s .season) ≡ false → Chart s lent ways₀ (Refused (refusalIn season)) slots ways order
-          season-refuses e = refuse s lent ways₀ season slots ways order (season-bad s table cells-fit no-ring e)
+          pub climate-refuses : climateFits (s .climate) ≡ false → Chart s lent ways₀ (Refused (refusalIn climate)) slots ways order
+          climate-refuses e = refuse s lent ways₀ climate slots ways order (climate-bad s table cells-fit no-ring e)
 
-          pub surveyed : seasonFits (s .season) ≡ true → Chart s lent ways₀ Accepted slots ways order
+          pub surveyed : climateFits (s .climate) ≡ true → Chart s lent ways₀ Accepted slots ways order
           surveyed e =
               record {
                 verdict-is = sym (ap verdictIn (all-pass s table cells-fit no-ring e));

@@ -9,18 +9,18 @@ use crate::order::put_in_order;
 use crate::ways::CLOSED;
 use covers::CODES;
 use covers::read_covers;
+use records::Climate;
 use records::Grid;
 use records::MOST_CELLS;
 use records::Place;
 use records::Refusal;
-use records::Season;
 use records::Verdict;
 use records::setup_each;
 
 // Tests 3 to 6, for a grid within its limits and one entry a cell.
 fn chart(
     grid: Grid,
-    season: Season,
+    climate: Climate,
     covers: &[u32],
     direction: &[u32],
     cover: &[u32],
@@ -30,8 +30,8 @@ fn chart(
     ways: &mut [u32; MOST_CELLS],
     order: &mut [u32; MOST_CELLS],
 ) -> Verdict
-    requires { ⌜ Surveyable (setupAs grid season (now covers) (now direction) (now cover) (now group) (now available)) ⌝ }
-    ensures { λ r. ⌜ Chart (setupAs grid season (now (covers .entry)) (now (direction .entry)) (now (cover .entry)) (now (group .entry)) (now (available .entry)))
+    requires { ⌜ Surveyable (setupAs grid climate (now covers) (now direction) (now cover) (now group) (now available)) ⌝ }
+    ensures { λ r. ⌜ Chart (setupAs grid climate (now (covers .entry)) (now (direction .entry)) (now (cover .entry)) (now (group .entry)) (now (available .entry)))
         (now (slots .entry)) (now (ways .entry)) r (now (slots .exit)) (now (ways .exit)) (now (order .exit)) ⌝ }
 {
     let mut index = [0u8; CODES];
@@ -59,8 +59,8 @@ fn chart(
     if let Place::At(i) = ring {
         return Verdict::Refused(Refusal::Ring(i));
     }
-    if !season.fits() {
-        return Verdict::Refused(Refusal::Season);
+    if !climate.fits() {
+        return Verdict::Refused(Refusal::Climate);
     }
     Verdict::Accepted
 }
@@ -78,7 +78,7 @@ fn wipe(slots: &mut [u8; MOST_CELLS], ways: &mut [u32; MOST_CELLS], order: &mut 
 // arrays are wiped.
 pub fn survey(
     grid: Grid,
-    season: Season,
+    climate: Climate,
     covers: &[u32],
     direction: &[u32],
     cover: &[u32],
@@ -88,7 +88,7 @@ pub fn survey(
     ways: &mut [u32; MOST_CELLS],
     order: &mut [u32; MOST_CELLS],
 ) -> Verdict
-    ensures { λ r. ⌜ Surveyed (setupAs grid season (now (covers .entry)) (now (direction .entry)) (now (cover .entry)) (now (group .entry)) (now (available .entry)))
+    ensures { λ r. ⌜ Surveyed (setupAs grid climate (now (covers .entry)) (now (direction .entry)) (now (cover .entry)) (now (group .entry)) (now (available .entry)))
         (now (slots .entry)) (now (ways .entry)) r (now (slots .exit)) (now (ways .exit)) (now (order .exit)) ⌝ }
 {
     if !grid.fits() {
@@ -107,7 +107,7 @@ pub fn survey(
     }
     let verdict = chart(
         grid,
-        season,
+        climate,
         covers,
         direction,
         cover,
@@ -127,7 +127,7 @@ pub fn survey(
 // The setup check.
 pub fn check(
     grid: Grid,
-    season: Season,
+    climate: Climate,
     covers: &[u32],
     direction: &[u32],
     cover: &[u32],
@@ -135,14 +135,14 @@ pub fn check(
     available: &[u32],
 ) -> Verdict
     ensures { λ r. ⌜ r ≡ verdictIn (checkOf
-        (setupAs grid season (now (covers .entry)) (now (direction .entry)) (now (cover .entry)) (now (group .entry)) (now (available .entry)))) ⌝ }
+        (setupAs grid climate (now (covers .entry)) (now (direction .entry)) (now (cover .entry)) (now (group .entry)) (now (available .entry)))) ⌝ }
 {
     let mut slots = [0u8; MOST_CELLS];
     let mut ways = [0u32; MOST_CELLS];
     let mut order = [0u32; MOST_CELLS];
     survey(
         grid,
-        season,
+        climate,
         covers,
         direction,
         cover,

@@ -10,11 +10,11 @@ use Rattle.paper.specs.Day.{Fresh, freshOf}
 use Rattle.paper.specs.Refusals.{Verdict, accepted, refused, Refusal}
 use Rattle.paper.specs.Setup as paper
 use Rattle.paper.specs.State.{State}
-use Rattle.records.specs.Grids.{setupAs}
+use Rattle.records.specs.Grids.{climateAs, setupAs}
 use Rattle.records.specs.declared.grids.Grid.{Grid}
-use Rattle.records.specs.declared.grids.Season.{Season}
+use Rattle.records.specs.declared.grids.Climate.{Climate}
 use Rattle.lines.specs.Lines.{refusal}
-use Rattle.text.specs.Laying.{gridIn, seasonIn, Laid}
+use Rattle.text.specs.Laying.{gridIn, climateIn, Laid}
 use Rattle.text.specs.Program.{coverCount, cellCount, cellsFrom, daysFrom, dayCount, dayAt, setup, noResults, daysText, freshText, startText, runText}
 use Rattle.text.specs.Run.{Coded, Complete, Lent, DaysReady}
 use Rattle.text.proofs.OneDayLaws.{zeros}
@@ -64,15 +64,15 @@ module _
           few = omega (arith, each, lent .few);
         }
 
-    module _ (grid : Grid) (season : Season) (gridded : grid ≡ gridIn ns) (seasoned : season ≡ seasonIn ns) where
+    module _ (grid : Grid) (climate : Climate) (gridded : grid ≡ gridIn ns) (told : climate ≡ climateIn ns) where
       abbrev here : paper.Setup
-      here = setupAs grid season covers direction cover group water
+      here = setupAs grid climate covers direction cover group water
 
       same-setup : here ≡ setup ns
       unfolding setup
       same-setup = λ k. record {
         grid = record { width = gridded k .width; height = gridded k .height };
-        season = record { first = seasoned k .first; last = seasoned k .last };
+        climate = climateAs (told k);
         covers = laid .table k;
         direction = laid .directions k;
         cover = laid .codes k;

@@ -5,20 +5,24 @@ use Prim.Native.Nat.{ℕ, _≤_}
 use lib.ListN.{length, getD, take}
 use Rattle.theory.specs.Lists.{made}
 use Rattle.records.specs.declared.grids.Grid.{Grid}
-use Rattle.records.specs.declared.grids.Season.{Season}
-use Rattle.text.specs.Program.{setup}
+use Rattle.records.specs.declared.grids.Climate.{Climate}
+use Rattle.text.specs.Program.{balanceSetpoints, setup}
 
 -- the first n places of an array are a rule's
 pub record Front (n : ℕ) (rule : ℕ → ℕ) (l : List ℕ) : Type 0 where
   pub room : n ≤ length l
   pub filled : take n l ≡ made n rule
 
--- the first four numbers
+-- the first four numbers, and the program's setpoints
 abbrev pub gridIn : List ℕ → Grid
 gridIn ns = record { width = getD ns 0 0; height = getD ns 1 0 }
 
-abbrev pub seasonIn : List ℕ → Season
-seasonIn ns = record { first = getD ns 2 0; last = getD ns 3 0 }
+abbrev pub climateIn : List ℕ → Climate
+climateIn ns =
+    record {
+      season = record { first = getD ns 2 0; last = getD ns 3 0 };
+      setpoints = record { first = record { 0 = balanceSetpoints .first }; second = record { 0 = balanceSetpoints .second } };
+    }
 
 pub record Laid (ns covers direction cover group water : List ℕ) : Type 0 where
   pub table : covers ≡ setup ns .covers

@@ -7,7 +7,7 @@ use lib.IntN.{ℤ}
 use lib.ListN.{length, getD, replicate}
 use Rattle.theory.specs.Lists.{made}
 use Rattle.paper.specs.Limits.{within, mostCovers}
-use Rattle.paper.specs.Setup.{Setup, cells, gridFits}
+use Rattle.paper.specs.Setup.{Setpoints, Setup, cells, gridFits}
 use Rattle.paper.specs.State.{State, Day}
 use Rattle.paper.specs.Refusals.{Verdict, accepted, refused}
 use Rattle.paper.specs.Day.{Results, Outcome, Fresh, freshOf, dayOf}
@@ -19,6 +19,10 @@ use Rattle.lines.specs.Lines.{dayLine, endLine, refusedLine, refusal}
 -- a negative direction is a fault of its cell: its group then stands as 0, which is outside 1 to 4
 unfoldable pub groupGiven : ℕ → ℕ → ℕ
 groupGiven direction group = cond (ltb negatives direction) 0 group
+
+-- the setpoints of the frost index that `balance` uses
+abbrev pub balanceSetpoints : Setpoints
+balanceSetpoints = record { first = 56000; second = 83000 }
 
 -- The input's numbers are held as their codes, so that a number below zero is past the limits of its field; a temperature has its sign back.
 -- In order: width, height, first, last, count of covers; 16 numbers a cover; four a cell; seven a day.
@@ -52,7 +56,7 @@ module _ (ns : List ℕ) where
   setup =
       record {
         grid = record { width = field 0; height = field 1 };
-        season = record { first = field 2; last = field 3 };
+        climate = record { season = record { first = field 2; last = field 3 }; setpoints = balanceSetpoints };
         covers = made (16 * coverCount) (λ k. field (5 + k));
         direction = made cellCount (λ i. field (cellsFrom + 4 * i));
         cover = made cellCount (λ i. field (cellsFrom + 4 * i + 1));

@@ -14,12 +14,12 @@ use crate::fields::tenths;
 use lines::Told;
 use lines::ended;
 use lines::tell;
+use records::Climate;
 use records::DayRecord;
 use records::Depth;
 use records::Grid;
 use records::MOST_CELLS;
 use records::Past;
-use records::Season;
 use records::TenthF;
 use records::wide;
 
@@ -46,7 +46,7 @@ pub(crate) fn days(
     numbers: &[u32],
     from: usize,
     grid: Grid,
-    season: Season,
+    climate: Climate,
     covers: &[u32],
     direction: &[u32],
     cover: &[u32],
@@ -58,7 +58,7 @@ pub(crate) fn days(
     output: &mut [u8],
 ) -> usize
     requires { ⌜ DaysReady (now numbers) from (now direction) ⌝ }
-    ensures { λ r. ⌜ Wrote mostText 0 (daysText (setupAs grid season (now (covers .entry)) (now (direction .entry)) (now (cover .entry)) (now (group .entry)) (now (water .entry))) (stateAs (now (soil .entry)) (now (snow .entry)) past) (noResults (length (now (direction .entry)))) 0 (made (dayCount (now (numbers .entry))) (dayAt (now (numbers .entry))))) (now (output .entry)) (now (output .exit)) r ⌝ }
+    ensures { λ r. ⌜ Wrote mostText 0 (daysText (setupAs grid climate (now (covers .entry)) (now (direction .entry)) (now (cover .entry)) (now (group .entry)) (now (water .entry))) (stateAs (now (soil .entry)) (now (snow .entry)) past) (noResults (length (now (direction .entry)))) 0 (made (dayCount (now (numbers .entry))) (dayAt (now (numbers .entry))))) (now (output .entry)) (now (output .exit)) r ⌝ }
 {
     let n = direction.len();
     let count = (numbers.len() - from) / DAY_NUMBERS;
@@ -75,7 +75,7 @@ pub(crate) fn days(
         let day = day_at(numbers, from, k);
         let answer = recharge::day(
             grid,
-            season,
+            climate,
             covers,
             direction,
             cover,

@@ -2,7 +2,7 @@
 ghost use mathlib.Core.Path.{_≡_};
 ghost use Prim.Native.Nat.{_≤_};
 ghost use lib.ListN.{length};
-ghost use Rattle.text.specs.Laying.{gridIn, seasonIn, Laid};
+ghost use Rattle.text.specs.Laying.{gridIn, climateIn, Laid};
 ghost use Rattle.text.specs.Program.{runText};
 ghost use Rattle.text.specs.Run.{Coded, Complete, Lent, mostText};
 ghost use Rattle.lines.specs.Writing.{Wrote};
@@ -13,9 +13,12 @@ use crate::fields::column;
 use crate::fields::groups;
 use covers::ENTRY_NUMBERS;
 use lines::refusal;
+use records::Climate;
+use records::FrostIndex;
 use records::Grid;
 use records::MOST_CELLS;
 use records::Season;
+use records::Setpoints;
 use records::Verdict;
 use records::index_of;
 
@@ -28,13 +31,19 @@ fn grid_in(numbers: &[u32]) -> Grid
     Grid { width, height }
 }
 
-fn season_in(numbers: &[u32]) -> Season
+// The season of the text, and the program's own setpoints.
+fn climate_in(numbers: &[u32]) -> Climate
     requires { ⌜ 5 ≤ length (now numbers) ⌝ }
-    ensures { λ r. ⌜ r ≡ seasonIn (now (numbers .entry)) ⌝ }
+    ensures { λ r. ⌜ r ≡ climateIn (now (numbers .entry)) ⌝ }
 {
     let first = numbers[2];
     let last = numbers[3];
-    Season { first, last }
+    let season = Season { first, last };
+    let setpoints = Setpoints {
+        first: FrostIndex::FIRST_SETPOINT,
+        second: FrostIndex::SECOND_SETPOINT,
+    };
+    Climate { season, setpoints }
 }
 
 // The fresh state, and the days from it on; or its refusal.
@@ -53,11 +62,11 @@ fn begun(
     ensures { λ r. ⌜ Wrote mostText 0 (runText (now (numbers .entry))) (now (output .entry)) (now (output .exit)) r ⌝ }
 {
     let grid = grid_in(numbers);
-    let season = season_in(numbers);
+    let climate = climate_in(numbers);
     let from = FRONT_NUMBERS + covers.len() + CELL_NUMBERS * direction.len();
     let start = recharge::fresh(
         grid,
-        season,
+        climate,
         covers,
         direction,
         cover,
@@ -75,7 +84,7 @@ fn begun(
                 numbers,
                 from,
                 grid,
-                season,
+                climate,
                 covers,
                 direction,
                 cover,

@@ -5,7 +5,7 @@ use Prim.Native.Nat.{ℕ, _≤_}
 use borrow.Author.Tests.{leb-true, le-leb}
 use Rattle.theory.proofs.Cases.{and-left, and-right}
 use Rattle.paper.specs.Limits.{withinℤ, leastTemperature, mostTemperature, mostGross, mostPotential, leastCurveNumber, mostCurveNumber}
-use Rattle.paper.specs.Setup.{Season}
+use Rattle.paper.specs.Setup.{Climate}
 use Rattle.paper.specs.State.{Memory, Past, Day, dayFits, memoryFits}
 use Rattle.paper.specs.CurveNumber.{Condition, curveNumber}
 use Rattle.paper.specs.CellDay.{today}
@@ -42,16 +42,16 @@ five-fit m h =
       yesterday = leb-true _ _ (search (and-left, and-right) depth 9);
     }
 
-module _ (s : Season) (p : Past) (d : Day) where
-  pub today-fits : dayFits d ≡ true → memoryFits (p .memory) ≡ true → weatherOf s p d ≡ today s p d
+module _ (c : Climate) (p : Past) (d : Day) where
+  pub today-fits : dayFits d ≡ true → memoryFits (p .memory) ≡ true → weatherOf c p d ≡ today c p d
   unfolding weatherOf
   today-fits day memory = rw (day, memory) refl
 
-  pub no-day : dayFits d ≡ false → noWeather ≡ weatherOf s p d
+  pub no-day : dayFits d ≡ false → noWeather ≡ weatherOf c p d
   unfolding weatherOf
   no-day day = rw day refl
 
-  pub no-memory : dayFits d ≡ true → memoryFits (p .memory) ≡ false → noWeather ≡ weatherOf s p d
+  pub no-memory : dayFits d ≡ true → memoryFits (p .memory) ≡ false → noWeather ≡ weatherOf c p d
   unfolding weatherOf
   no-memory day memory = rw (day, memory) refl
 

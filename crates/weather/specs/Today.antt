@@ -2,7 +2,7 @@
 use mathlib.Core.Bool.{true, false, cond, _&&_}
 use mathlib.Core.Path.{_≡_}
 use Rattle.paper.specs.Limits.{withinℤ, leastTemperature, mostTemperature}
-use Rattle.paper.specs.Setup.{Season}
+use Rattle.paper.specs.Setup.{Climate}
 use Rattle.paper.specs.State.{Past, Day, memoryFits, dayFits}
 use Rattle.paper.specs.CellDay as paper
 use Rattle.paper.specs.CurveNumber.{II}
@@ -32,5 +32,5 @@ noWeather =
     record { gross = 0; potential = 0; growing? = false; snows? = false; meltable = 0; condition = II }
 
 -- of a day and a memory within their limits; of any other, a day without weather
-unfoldable pub weatherOf : Season → Past → Day → paper.Today
-weatherOf s p d = cond (dayFits d && memoryFits (p .memory)) (paper.today s p d) noWeather
+unfoldable pub weatherOf : Climate → Past → Day → paper.Today
+weatherOf c p d = cond (dayFits d && memoryFits (p .memory)) (paper.today c p d) noWeather

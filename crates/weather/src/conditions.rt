@@ -1,13 +1,17 @@
-// Rule 5: the antecedent condition, and the curve number in it.
+// Rule 5: the antecedent condition, what it counts as in frost, and the curve number in it.
 ghost use mathlib.Core.Path.{_≡_};
 ghost use Prim.Native.Nat.{_<_};
 ghost use Rattle.paper.specs.State.{fiveDays};
 ghost use Rattle.paper.specs.CurveNumber.{class as classOf, conditionOf, nearest as rounded};
+ghost use Rattle.paper.specs.Frost.{counted, notDry};
+ghost use Rattle.records.specs.Grids.{setpointsAs};
 ghost use Rattle.records.specs.Past.{memoryAs};
 ghost use Rattle.weather.specs.Conditions.{conditionAs, FiveFit, curveNumberBy};
 use records::CurveNumber;
 use records::Depth;
+use records::FrostIndex;
 use records::Memory;
+use records::Setpoints;
 
 // By the rain of the five previous days: I is dry, II average, III wet.
 pub enum Condition {
@@ -50,6 +54,29 @@ pub(crate) fn condition_of(growing: bool, memory: Memory) -> Condition
     } else {
         class(Depth(5000), Depth(11000), rain)
     }
+}
+
+fn not_dry(condition: Condition) -> Condition
+    ensures { λ r. ⌜ conditionAs r ≡ notDry (conditionAs condition) ⌝ }
+{
+    match condition {
+        Condition::I => Condition::II,
+        Condition::II => Condition::II,
+        Condition::III => Condition::III,
+    }
+}
+
+// What a day's condition counts as, by the frost index that the day has set: at or above a setpoint it is reached.
+pub(crate) fn counted_as(setpoints: Setpoints, index: FrostIndex, condition: Condition) -> Condition
+    ensures { λ r. ⌜ conditionAs r ≡ counted (setpointsAs setpoints) (index .0) (conditionAs condition) ⌝ }
+{
+    if setpoints.second.0 <= index.0 {
+        return Condition::III;
+    }
+    if setpoints.first.0 <= index.0 {
+        return not_dry(condition);
+    }
+    condition
 }
 
 // Twice the numerator and the divisor once, over twice the divisor: halves go up.

@@ -22,7 +22,7 @@ use Rattle.admission.proofs.tests.admit.Tie as tie
 -- what was handed over, as the paper's
 abbrev setup : tie.Start → Setup
 setup s =
-    setupAs (s .args .grid) (s .args .season) (s .args .covers .now) (s .args .direction .now) (s .args .cover .now) (s .args .group .now)
+    setupAs (s .args .grid) (s .args .climate) (s .args .covers .now) (s .args .direction .now) (s .args .cover .now) (s .args .group .now)
     (s .args .available .now)
 
 abbrev state : tie.Start → State

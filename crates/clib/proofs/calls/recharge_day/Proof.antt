@@ -1,6 +1,6 @@
 -- `calls::recharge_day` meets its contract: a slice of another length hands all back; else the library is handed the lent past and day as the paper reads
 -- them, its answer is the paper's, and it is written as C's numbers. The memory's figures fit 32 bits, since they are the lent ones and
--- today's.
+-- today's; the frost index too, since it is the lent one or within its limit.
 use borrow.Author.Needs.{needs}
 use Rattle.clib.proofs.calls.recharge_day.Statement.{statement}
 use Rattle.clib.proofs.calls.recharge_day.Tie as tie
@@ -13,20 +13,23 @@ use mir.Syntax.{w32}
 use mir.Val.{toZ, ofZ}
 use borrow.Author.Tests.{not-true, not-false, eqb-true}
 use Rattle.theory.proofs.Cases.{and-left, and-right}
-use Rattle.paper.specs.Setup.{Setup}
+use Rattle.paper.specs.Setup.{Climate, Setup}
 use Rattle.paper.specs.State.{Day}
 use Rattle.paper.specs.Day.{Results}
-use Rattle.clib.specs.Handed.{Stores, setupFrom, storesFrom, keepable, resultsFrom, dayFrom}
+use Rattle.clib.specs.Handed.{Stores, climateFrom, setupFrom, storesFrom, keepable, resultsFrom, dayFrom}
 use Rattle.clib.proofs.HandedLaws.{lengths-known, day-lent, day-placed, day-narrow, day-handed}
 
 -- what was lent and handed over
-abbrev the-setup : tie.Start → Setup
-the-setup c =
-    setupFrom (c .args .width) (c .args .height) (c .args .first) (c .args .last) (c .args .covers .now) (c .args .direction .now)
-    (c .args .cover .now) (c .args .group .now) (c .args .available .now)
+abbrev setup-in : tie.Start → Climate → Setup
+setup-in c climate =
+    setupFrom (c .args .width) (c .args .height) climate (c .args .covers .now) (c .args .direction .now) (c .args .cover .now)
+    (c .args .group .now) (c .args .available .now)
+
+abbrev the-climate : tie.Start → Climate
+the-climate c = climateFrom (c .args .first) (c .args .last) (c .args .first-setpoint) (c .args .second-setpoint)
 
 abbrev the-stores : tie.Start → Stores
-the-stores c = storesFrom (c .args .soil .now) (c .args .snow .now) (c .args .memory .now) (c .args .last-serial .now)
+the-stores c = storesFrom (c .args .soil .now) (c .args .snow .now) (c .args .memory .now) (c .args .last-serial .now) (c .args .frost-index .now)
 
 abbrev the-results : tie.Start → Results
 the-results c =
@@ -39,45 +42,48 @@ the-day c =
     (c .args .potential)
 
 -- from where the past is kept back to the day's call, from there to the past and the day that it was handed, and from the lengths' test to the start
-abbrev rejected : tie.After-keep-past-arg2 → tie.After-rejected
-rejected c = c .before .before .before .before .before
+abbrev rejected : tie.After-keep-past-arg3 → tie.After-rejected
+rejected c = c .before .before .before .before .before .before
 
-abbrev recharged : tie.After-keep-past-arg2 → tie.After-recharged
+abbrev recharged : tie.After-keep-past-arg3 → tie.After-recharged
 recharged c = rejected c .before .before
 
-abbrev evapotranspired : tie.After-keep-past-arg2 → tie.After-evapotranspired
+abbrev evapotranspired : tie.After-keep-past-arg3 → tie.After-evapotranspired
 evapotranspired c = recharged c .before .before
 
-abbrev outflow : tie.After-keep-past-arg2 → tie.After-outflow
+abbrev outflow : tie.After-keep-past-arg3 → tie.After-outflow
 outflow c = evapotranspired c .before .before
 
-abbrev intercepted : tie.After-keep-past-arg2 → tie.After-intercepted
+abbrev intercepted : tie.After-keep-past-arg3 → tie.After-intercepted
 intercepted c = outflow c .before .before
 
-abbrev snow : tie.After-keep-past-arg2 → tie.After-snow
+abbrev snow : tie.After-keep-past-arg3 → tie.After-snow
 snow c = intercepted c .before .before
 
-abbrev soil : tie.After-keep-past-arg2 → tie.After-soil
+abbrev soil : tie.After-keep-past-arg3 → tie.After-soil
 soil c = snow c .before .before
 
-abbrev called : tie.After-keep-past-arg2 → tie.After-day
+abbrev called : tie.After-keep-past-arg3 → tie.After-day
 called c = soil c .before
 
 abbrev past-from : tie.After-day → tie.After-past-from
 past-from c = c .before .before .before .before .before .before .before .before
 
-abbrev day-from : tie.After-past-from-arg2 → tie.After-day-from
-day-from c = c .before .before
+abbrev day-from : tie.After-past-from-arg3 → tie.After-day-from
+day-from c = c .before .before .before
 
 abbrev start : tie.After-lengths-fit → tie.Start
-start c = c .before .before .before .before .before .before .before .before .before .before .before .before .before .before .before .before
+start c = c .before .before .before .before .before .before .before .before .before .before .before .before .before .before .before .before .before
 
 -- from the end back to where the totals were written, and from there to where the past was kept
 abbrev totals : tie.After-returned-as → tie.After-totals
 totals c = c .before .before
 
+abbrev frost-index : tie.After-write-totals-arg → tie.After-frost-index
+frost-index c = c .before .before
+
 abbrev last-serial : tie.After-write-totals-arg → tie.After-last-serial
-last-serial c = c .before .before
+last-serial c = frost-index c .before .before
 
 abbrev memory : tie.After-write-totals-arg → tie.After-memory
 memory c = last-serial c .before .before
@@ -105,18 +111,18 @@ returns c =
 
 past-from-requires : tie.Need-past-from-requires
 unfolding keepable
-past-from-requires c κs = lengths-known (and-left _ _ (passed (day-from c .before)))
+past-from-requires c κs = lengths-known (and-left _ _ (passed (day-from c .before .before)))
 
 keep-past-requires : tie.Need-keep-past-requires
 unfolding keepable
 keep-past-requires c κs =
     let past = past-from (called c) in
     let day = day-from (past .before) in
-    (day-narrow _ _ _ _ (called c .day .ensures) (past .past-from .ensures .1) (day .day-from .ensures .1), lengths-known (and-left _ _ (passed (day .before))))
+    (day-narrow _ _ _ _ (called c .day .ensures) (past .past-from .ensures .1) (day .day-from .ensures .1), lengths-known (and-left _ _ (passed (day .before .before))))
 
 write-totals-requires : tie.Need-write-totals-requires
 write-totals-requires c κs =
-    let tested = day-from (past-from (called (keeps c .before)) .before) .before in
+    let tested = day-from (past-from (called (keeps c .before)) .before) .before .before in
     eqb-true _ _ (and-right (keepable (the-stores (start (tested .before)))) _ (passed tested))
 
 returned-as-requires : tie.Need-returned-as-requires
@@ -127,9 +133,9 @@ returns-2 c =
     let kept = keeps (totals c .before .before) in
     let at = called (kept .before) in
     let day = day-from (past-from at .before) in
-    let lent = start (day .before .before) in
-    day-handed (the-setup lent) (the-stores lent) (the-results lent) (lent .args .totals .now) (the-day lent) (passed (day .before))
-    (at .day .ensures) (day .day-from .ensures .0 ∙ written-back lent) (past-from at .past-from .ensures .0)
+    let lent = start (day .before .before .before) in
+    day-handed (setup-in lent (the-climate lent)) (the-stores lent) (the-results lent) (lent .args .totals .now) (the-day lent) (passed (day .before .before))
+    (at .day .ensures) (ap (setup-in lent) (day .before .climate-from .ensures)) (day .day-from .ensures .0 ∙ written-back lent) (past-from at .past-from .ensures .0)
     (c .returned-as .ensures) (kept .keep-past .ensures) (totals c .before .write-totals .ensures)
 
 pub recharge-day-spec : {M : Type 1} → statement M
@@ -138,6 +144,7 @@ recharge-day-spec =
     (tie.spec
     (λ c κs. search needs)
     returns
+    (λ c κs. search needs)
     (λ c κs. search needs)
     past-from-requires
     (λ c κs. search needs)
@@ -148,6 +155,7 @@ recharge-day-spec =
     (λ c. snow (keeps (totals c .before .before) .before) .snow .given)
     (λ c. memory (totals c .before .before) .memory .given)
     (λ c. last-serial (totals c .before .before) .last-serial .given)
+    (λ c. frost-index (totals c .before .before) .frost-index .given)
     (λ c. intercepted (keeps (totals c .before .before) .before) .intercepted .given)
     (λ c. outflow (keeps (totals c .before .before) .before) .outflow .given)
     (λ c. evapotranspired (keeps (totals c .before .before) .before) .evapotranspired .given)

@@ -33,7 +33,7 @@ start c = c .before .before .before .before .before .before .before .before .bef
 
 abbrev setup : tie.Start → Setup
 setup c =
-    setupAs (c .args .grid) (c .args .season) (c .args .covers .now) (c .args .direction .now) (c .args .cover .now) (c .args .group .now)
+    setupAs (c .args .grid) (c .args .climate) (c .args .covers .now) (c .args .direction .now) (c .args .cover .now) (c .args .group .now)
     (c .args .available .now)
 
 abbrev state : tie.Start → State
@@ -86,8 +86,8 @@ sound : (c : tie.After-enum-told) → let s = start (c .before .before) in Sound
 sound c = let s = start (c .before .before) in sound-day (setup s) (state s) (results s) (dayAs (s .args .day)) (passed c)
 
 weather : (c : tie.After-enum-told) → let s = start (c .before .before) in
-    todayAs (c .before .before .admit .result .today) ≡ today (setup s .season) (state s .past) (dayAs (s .args .day))
-weather c = let ok = sound c in let s = start (c .before .before) in c .before .before .admit .ensures .weather ∙ today-fits (setup s .season) (state s .past) (dayAs (s .args .day)) (ok .day) (ok .memory)
+    todayAs (c .before .before .admit .result .today) ≡ today (setup s .climate) (state s .past) (dayAs (s .args .day))
+weather c = let ok = sound c in let s = start (c .before .before) in c .before .before .admit .ensures .weather ∙ today-fits (setup s .climate) (state s .past) (dayAs (s .args .day)) (ok .day) (ok .memory)
 
 -- and the arrays are those of its setup, with the plots of the day
 mapped : (c : tie.After-enum-told) → let t = c .before .before in

@@ -19,7 +19,7 @@ use Rattle.stores.proofs.fresh_states.fresh.Tie as tie
 
 abbrev setup : tie.Start → Setup
 setup s =
-    setupAs (s .args .grid) (s .args .season) (s .args .covers .now) (s .args .direction .now) (s .args .cover .now) (s .args .group .now)
+    setupAs (s .args .grid) (s .args .climate) (s .args .covers .now) (s .args .direction .now) (s .args .cover .now) (s .args .group .now)
     (s .args .available .now)
 
 abbrev stores : tie.Start → List ℕ

@@ -8,13 +8,13 @@ use Rattle.paper.specs.Setup.{Setup}
 use Rattle.paper.specs.Refusals.{accepted, verdict, coverTest}
 use Rattle.records.specs.Grids.{setupAs}
 use Rattle.records.proofs.VerdictLaws.{accepted-back}
-use Rattle.survey.proofs.SurveyLaws.{table-refuses, lay-ask, cell-refuses, order-ask, ring-refuses, season-refuses, surveyed}
+use Rattle.survey.proofs.SurveyLaws.{table-refuses, lay-ask, cell-refuses, order-ask, ring-refuses, climate-refuses, surveyed}
 use Rattle.survey.proofs.charts.chart.Statement.{statement}
 use Rattle.survey.proofs.charts.chart.Tie as tie
 
 abbrev setup : tie.Start → Setup
 setup s =
-    setupAs (s .args .grid) (s .args .season) (s .args .covers .now) (s .args .direction .now) (s .args .cover .now) (s .args .group .now)
+    setupAs (s .args .grid) (s .args .climate) (s .args .covers .now) (s .args .direction .now) (s .args .cover .now) (s .args .group .now)
     (s .args .available .now)
 
 returns : tie.Need-returns
@@ -77,7 +77,7 @@ returns-4 c =
     let o = straight .before .before in
     let l = laid o .before .before in
     let t = told l in
-    season-refuses (setup (start t)) _ _ (start t .pre) (table t) _ (t .before .before .read-covers .ensures .indexed (table t))
+    climate-refuses (setup (start t)) _ _ (start t .pre) (table t) _ (t .before .before .read-covers .ensures .indexed (table t))
     (l .before .before .before .lay-cells-arg .given .0 .1) (l .before .before .lay-cells-arg2 .given .0 .1)
     _ _ _ _ (l .lay-cells .ensures) (laid o .enum-told3 .given .1) _ _ (o .put-in-order .ensures) (straight .enum-told4 .given .1)
     (sym (c .before .fits2 .ensures) ∙ not-true _ (c .if1 .taken))

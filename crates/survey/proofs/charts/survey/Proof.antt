@@ -16,7 +16,7 @@ use Rattle.survey.proofs.charts.survey.Tie as tie
 
 abbrev setup : tie.Start → Setup
 setup s =
-    setupAs (s .args .grid) (s .args .season) (s .args .covers .now) (s .args .direction .now) (s .args .cover .now) (s .args .group .now)
+    setupAs (s .args .grid) (s .args .climate) (s .args .covers .now) (s .args .direction .now) (s .args .cover .now) (s .args .group .now)
     (s .args .available .now)
 
 returns : tie.Need-returns

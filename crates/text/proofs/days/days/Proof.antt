@@ -30,12 +30,12 @@ next-turn : {k n : ℕ} → k < n → k + 1 ≤ n
 next-turn h = omega arith
 
 abbrev Inv-loop : tie.InvT-loop
-Inv-loop numbers from grid season covers direction cover group water soil₀ snow₀ output₀ n count intercepted₀ outflow₀ evapotranspired₀ recharged₀ rejected₀ past₀ at₀ done₀ k₀ soil snow output intercepted outflow evapotranspired recharged rejected past at done k =
-    Running n count (setupAs grid season covers direction cover group water) (stateAs soil₀ snow₀ past₀) (made (dayCount numbers) (dayAt numbers)) output₀ output
+Inv-loop numbers from grid climate covers direction cover group water soil₀ snow₀ output₀ n count intercepted₀ outflow₀ evapotranspired₀ recharged₀ rejected₀ past₀ at₀ done₀ k₀ soil snow output intercepted outflow evapotranspired recharged rejected past at done k =
+    Running n count (setupAs grid climate covers direction cover group water) (stateAs soil₀ snow₀ past₀) (made (dayCount numbers) (dayAt numbers)) output₀ output
     (stateAs soil snow past) intercepted outflow evapotranspired recharged rejected at done k
 
 abbrev μ-loop : tie.MeasureT-loop
-μ-loop numbers from grid season covers direction cover group water soil₀ snow₀ output₀ n count intercepted₀ outflow₀ evapotranspired₀ recharged₀ rejected₀ past₀ at₀ done₀ k₀ soil snow output intercepted outflow evapotranspired recharged rejected past at done k =
+μ-loop numbers from grid climate covers direction cover group water soil₀ snow₀ output₀ n count intercepted₀ outflow₀ evapotranspired₀ recharged₀ rejected₀ past₀ at₀ done₀ k₀ soil snow output intercepted outflow evapotranspired recharged rejected past at done k =
     count - k
 
 -- the places that the needs name: from a day's telling back to the library's day, its numbers, the loop's head and the start
@@ -54,7 +54,7 @@ start head = head .before .before .before .before .before .before .before .befor
 -- what was handed over, as the paper's, and where the run stands before a day
 abbrev setup : tie.At-loop Inv-loop μ-loop → Setup
 setup h =
-    setupAs (start h .args .grid) (start h .args .season) (start h .args .covers .now) (start h .args .direction .now) (start h .args .cover .now)
+    setupAs (start h .args .grid) (start h .args .climate) (start h .args .covers .now) (start h .args .direction .now) (start h .args .cover .now)
     (start h .args .group .now) (start h .args .water .now)
 
 abbrev first : tie.At-loop Inv-loop μ-loop → State

@@ -10,15 +10,15 @@ use Rattle.records.specs.Verdicts.{verdictAs}
 use Rattle.text.proofs.PrintedLaws.{whole-text}
 use Rattle.text.proofs.StartLaws.{five, days-ready, start-refused, start-runs}
 
--- the places that the needs name: from the stores after the fresh state back to it, the season read and the start
+-- the places that the needs name: from the stores after the fresh state back to it, the climate read and the start
 abbrev fresh : tie.After-slice-known5 → tie.After-fresh
 fresh lent = lent .before .before .before .before
 
-abbrev season : tie.After-fresh → tie.After-season-in
-season fresh = fresh .before .before .before
+abbrev climate : tie.After-fresh → tie.After-climate-in
+climate fresh = fresh .before .before .before
 
-abbrev start : tie.After-season-in → tie.Start
-start season = season .before .before .before .before .before .before .before .before .before .before .before
+abbrev start : tie.After-climate-in → tie.Start
+start climate = climate .before .before .before .before .before .before .before .before .before .before .before
 
 -- and from each end back to those stores
 abbrev refused : tie.After-slice-known6 → tie.After-slice-known5
@@ -34,23 +34,23 @@ left f = stateAs (f .fresh .last .1 .1 .1 .1 .1 .1 .1 .0) (f .fresh .last .1 .1 
 grid-in-requires : tie.Need-grid-in-requires
 grid-in-requires c κs = five _ (c .before .before .before .before .before .before .before .before .before .pre .1 .numbers)
 
-season-in-requires : tie.Need-season-in-requires
-season-in-requires c κs = five _ (c .before .before .before .before .before .before .before .before .before .before .pre .1 .numbers)
+climate-in-requires : tie.Need-climate-in-requires
+climate-in-requires c κs = five _ (c .before .before .before .before .before .before .before .before .before .before .pre .1 .numbers)
 
 refusal-requires : tie.Need-refusal-requires
 refusal-requires c κs = search needs
 
 days-requires : tie.Need-days-requires
-days-requires c κs = let p = start (season (fresh (c .before .before .before .before .before .before))) .pre in days-ready _ _ _ _ _ _ _ _ (p .0) (p .1)
+days-requires c κs = let p = start (climate (fresh (c .before .before .before .before .before .before))) .pre in days-ready _ _ _ _ _ _ _ _ (p .0) (p .1)
 
 returns : tie.Need-returns
 returns c = let refusal = c .before .before in
     let told = refusal .before .before .before in
     let lent = told .before .before in
-    let at = season (fresh lent) in
+    let at = climate (fresh lent) in
     let p = start at .pre in
     whole-text
-    (start-refused _ _ _ _ _ _ _ _ (p .0) (p .1) _ _ (at .before .grid-in .ensures) (at .season-in .ensures) (left (fresh lent)) (verdictAs (fresh lent .fresh .result .verdict)) _
+    (start-refused _ _ _ _ _ _ _ _ (p .0) (p .1) _ _ (at .before .grid-in .ensures) (at .climate-in .ensures) (left (fresh lent)) (verdictAs (fresh lent .fresh .result .verdict)) _
     (fresh lent .fresh .ensures) (ap verdictAs (told .verdict .given .1)))
     (omega arith)
     (refusal .refusal .ensures)
@@ -59,10 +59,10 @@ returns-2 : tie.Need-returns-2
 returns-2 c = let days = c .before .before .before .before .before .before in
     let told = days .before .before .before .before .before in
     let lent = told .before .before in
-    let at = season (fresh lent) in
+    let at = climate (fresh lent) in
     let p = start at .pre in
     whole-text
-    (start-runs _ _ _ _ _ _ _ _ (p .0) (p .1) _ _ (at .before .grid-in .ensures) (at .season-in .ensures) (left (fresh lent)) (verdictAs (fresh lent .fresh .result .verdict))
+    (start-runs _ _ _ _ _ _ _ _ (p .0) (p .1) _ _ (at .before .grid-in .ensures) (at .climate-in .ensures) (left (fresh lent)) (verdictAs (fresh lent .fresh .result .verdict))
     (fresh lent .fresh .ensures) (ap verdictAs (told .enum-told .given .1)))
     (omega arith)
     (days .days .ensures)
@@ -108,7 +108,7 @@ begun-spec =
     tie.close
     (tie.spec
     grid-in-requires
-    season-in-requires
+    climate-in-requires
     add-from
     mul-from
     add-from-2
