@@ -16,9 +16,8 @@ use Rattle.theory.proofs.ListLaws.{made-at}
 use Rattle.theory.proofs.SumLaws.{sum-most}
 use Rattle.paper.specs.Limits.{mostSnow, mostGross, mostFrost, leastTemperature}
 use Rattle.paper.specs.Setup.{Setup, cell, cells, next}
-use Rattle.paper.specs.State.{State, Day, mostSoilOf, mostSnowOf, soilAt, snowAt, storesFit, memoryFits, lastFits, pastFits, dayFits, follows, remembered, serial}
+use Rattle.paper.specs.State.{State, Day, mostSoilOf, mostSnowOf, soilAt, snowAt, storesFit, memoryFits, lastFits, pastFits, dayFits, follows, remembered, serial, pastAfter}
 use Rattle.paper.specs.CurveNumber.{curveNumber}
-use Rattle.paper.specs.Frost.{frostAfter}
 use Rattle.paper.specs.CellDay.{Today, today, storeOf}
 use Rattle.paper.specs.Flow.{water}
 use Rattle.paper.specs.Refusals.{Refusal, Verdict, accepted, refused, verdict, single, oneEach, setupLengths, setupTests, mapTests, stateFits, tooDeep, dayTests}
@@ -172,13 +171,13 @@ module _ (s : Setup) (st : State) (r : Results) (d : Day) (ok : SoundDay s st r 
   unfolding lastFits dayFits
   kept-serial = let fits : dayFits d ≡ true = ok .day in search (and-left, and-right) depth 9
 
-  -- the index that the day sets is within its limit again, and so fits every number of 32 bits
-  pub kept-frost : frostAfter (st .past .frost) (d .mean) ≤ mostFrost
+  -- the index that the day hands on is within its limit again
+  pub kept-frost : pastAfter (st .past) d .frost ≤ mostFrost
   unfolding dayFits
   kept-frost =
       let fits : dayFits d ≡ true = ok .day in
       let cold : leZ leastTemperature (d .mean) ≡ true = search (and-left, and-right) depth 12 in
-      omega (arith, frost-kept (st .past .frost) (d .mean) (ok .frost) cold)
+      omega (arith, ok .frost, frost-kept (st .past .frost) (d .mean) (ok .frost) cold)
 
   -- an accepted day keeps the state within its limits
   pub kept-soil : (i : ℕ) → i < n → figuresOf s st d i .soil ≤ mostSoilOf (cell s i)

@@ -1,7 +1,7 @@
 -- The frost index. A floor is the greatest whole number not above its quotient, also below zero. By the sign of mean - 320 the day's step takes a floor
 -- away or adds a quotient rounded up, so that an index within its limit stays within it: the largest step reaches 2,498,334.
 use mathlib.Core.Path.{_≡_, refl, sym, ap, _∙_}
-use mathlib.Core.Bool.{true, cond}
+use mathlib.Core.Bool.{Bool, true, false, cond}
 use Prim.Native.Nat.{ℕ, zero, suc, _+_, _-_, _*_, _/_, _≤_, _<_}
 use native.Mathlib.Nat.{div-mul-le-self, lt-div-mul-add}
 use native.Mathlib.Omega.{arith}
@@ -9,7 +9,7 @@ use lib.Dec.{leb}
 use lib.IntN.{ℤ, pos, negsuc, negℤ, sucℤ, subℕ, _-ℤ_, _*ℤ_}
 use lib.Signed.{mag, leZ, ltZ}
 use borrow.Author.Tests.{leb-true, le-leb, lt-ltb, le-ltb, lt-leb}
-use Rattle.theory.proofs.Cases.{byCases, below-or-not, cond-true, cond-false}
+use Rattle.theory.proofs.Cases.{byCases, below-or-not}
 use Rattle.paper.specs.Limits.{mostFrost, leastTemperature}
 use Rattle.paper.specs.Setup.{Setpoints}
 use Rattle.paper.specs.Snow.{freezing}
@@ -68,16 +68,18 @@ frost-kept index mean within low = go (mean -ℤ pos freezing) refl
     go (pos w) e = rw (frost-thaws index w mean e) (omega arith)
     go (negsuc c) e = rw (frost-grows index c mean e) (omega (arith, coldest c mean low e))
 
--- a day that is III without frost stays III, and with equal setpoints only III is left
-pub counted-wet : (s : Setpoints) (index : ℕ) → counted s index III ≡ III
-unfolding counted notDry
-counted-wet s index =
-    byCases (leb (s .second) index) (λ e. cond-true (leb (s .second) index) e _ _)
-    (λ e. cond-false (leb (s .second) index) e _ _
-    ∙ byCases (leb (s .first) index) (λ f. cond-true (leb (s .first) index) f _ _) (λ f. cond-false (leb (s .first) index) f _ _))
-
+-- with equal setpoints only III is left, and a day that is III without frost stays III
 pub counted-equal : (s : Setpoints) (index : ℕ) (condition : Condition) → s .first ≡ s .second
     → counted s index condition ≡ cond (leb (s .second) index) III condition
 unfolding counted
 counted-equal s index condition e =
     rw e (byCases (leb (s .second) index) (λ t. simp t) (λ f. simp f))
+
+pub counted-wet : (s : Setpoints) (index : ℕ) → counted s index III ≡ III
+unfolding counted notDry
+counted-wet s index = go (leb (s .second) index) (leb (s .first) index)
+  where
+    go : (second first : Bool) → cond second III (cond first III III) ≡ III
+    go true first = refl
+    go false true = refl
+    go false false = refl

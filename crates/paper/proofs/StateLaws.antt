@@ -1,4 +1,5 @@
--- The memory holds the five previous days and no other, today's rain has no say in today's condition, and a fresh state is within the limits.
+-- The memory holds the five previous days and no other, today's rain has no say in today's condition and the
+-- index that today sets has, and a fresh state is within the limits.
 use mathlib.Core.Path.{_≡_, refl}
 use mathlib.Core.Bool.{true}
 use Prim.Native.Nat.{ℕ, suc, _<_, _≤_, zero-le}
@@ -7,8 +8,10 @@ use lib.Dec.{ltb}
 use borrow.Author.Tests.{le-leb, ltb-true}
 use Rattle.theory.proofs.Cases.{byCases, and-both, cond-true, cond-false}
 use Rattle.theory.proofs.ListLaws.{made-at}
-use Rattle.paper.specs.Setup.{Setup, Climate, cell, cells}
-use Rattle.paper.specs.State.{Day, Memory, Past, remembered, freshState, mostSoilOf, mostSnowOf, soilAt, snowAt, storesFit, memoryFits, lastFits, pastFits}
+use Rattle.paper.specs.Setup.{Setup, Climate, growing, cell, cells}
+use Rattle.paper.specs.State.{Day, Memory, Past, pastAfter, remembered, fiveDays, freshState, mostSoilOf, mostSnowOf, soilAt, snowAt, storesFit, memoryFits, lastFits, pastFits}
+use Rattle.paper.specs.CurveNumber.{conditionOf}
+use Rattle.paper.specs.Frost.{counted}
 use Rattle.paper.specs.CellDay.{today}
 use Rattle.paper.specs.Refusals.{stateFits}
 
@@ -24,6 +27,12 @@ pub today-not-counted : (c : Climate) (p : Past) (d e : Day) → d .dayOfYear �
     → today c p d .condition ≡ today c p e .condition
 unfolding today
 today-not-counted c p d e same mean = rw (same, mean) refl
+
+-- the index that a day sets, which is the one handed on, decides what it counts as
+pub just-set-decides : (c : Climate) (p : Past) (d : Day)
+    → today c p d .condition ≡ counted (c .setpoints) (pastAfter p d .frost) (conditionOf (growing (c .season) (d .dayOfYear)) (fiveDays (p .memory)))
+unfolding today
+just-set-decides c p d = refl
 
 pub fresh-fits : (s : Setup) (i : ℕ) → i < suc (cells s) → stateFits s (freshState s) i ≡ true
 unfolding stateFits freshState storesFit pastFits memoryFits lastFits
