@@ -1,13 +1,12 @@
 -- Frozen ground worked by hand, as one table that computes: single steps of the index, a winter and its thaw day by day, and the condition that a
 -- day counts as, by the index that it has just set.
 use mathlib.Core.Path.{_≡_, refl}
-use mathlib.Core.Bool.{true, false}
 use mathlib.Core.List.{List, [], _∷_}
 use Prim.Native.Nat.{ℕ, _-_}
 use lib.IntN.{ℤ, pos, negsuc}
 use lib.ListN.{replicate}
-use Rattle.paper.specs.Setup.{Setpoints, Climate, growing}
-use Rattle.paper.specs.State.{Day, Memory, none, Past, fiveDays}
+use Rattle.paper.specs.Setup.{Setpoints, growing}
+use Rattle.paper.specs.State.{none, fiveDays}
 use Rattle.paper.specs.Snow.{fallsAsSnow, aboveFreezing, meltable}
 use Rattle.paper.specs.CurveNumber.{Condition, I, II, III, class, conditionOf}
 use Rattle.paper.specs.Frost.{floor, orZero, frostAfter, notDry, counted}

@@ -1,19 +1,19 @@
 -- The frost index. A floor is the greatest whole number not above its quotient, also below zero. By the sign of mean - 320 the day's step takes a floor
 -- away or adds a quotient rounded up, so that an index within its limit stays within it: the largest step reaches 2,498,334.
-use mathlib.Core.Path.{_≡_, refl, sym, ap, _∙_}
+use mathlib.Core.Path.{_≡_, refl, ap}
 use mathlib.Core.Bool.{Bool, true, false, cond}
 use Prim.Native.Nat.{ℕ, zero, suc, _+_, _-_, _*_, _/_, _≤_, _<_}
 use native.Mathlib.Nat.{div-mul-le-self, lt-div-mul-add}
 use native.Mathlib.Omega.{arith}
 use lib.Dec.{leb}
-use lib.IntN.{ℤ, pos, negsuc, negℤ, sucℤ, subℕ, _-ℤ_, _*ℤ_}
+use lib.IntN.{ℤ, pos, negsuc, negℤ, sucℤ, _-ℤ_, _*ℤ_}
 use lib.Signed.{mag, leZ, ltZ}
-use borrow.Author.Tests.{leb-true, le-leb, lt-ltb, le-ltb, lt-leb}
+use borrow.Author.Tests.{leb-true, le-leb, lt-ltb, le-ltb}
 use Rattle.theory.proofs.Cases.{byCases, below-or-not}
 use Rattle.paper.specs.Limits.{mostFrost, leastTemperature}
 use Rattle.paper.specs.Setup.{Setpoints}
 use Rattle.paper.specs.Snow.{freezing}
-use Rattle.paper.specs.CurveNumber.{Condition, I, II, III}
+use Rattle.paper.specs.CurveNumber.{Condition, III}
 use Rattle.paper.specs.Frost.{floor, orZero, frostAfter, notDry, counted}
 
 neg-pos : (n : ℕ) → 0 < n → negℤ (pos n) ≡ negsuc (n - 1)

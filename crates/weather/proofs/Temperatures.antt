@@ -1,7 +1,7 @@
 -- Rule 3's test on the machine's signed numbers: measured temperatures are small enough that every step fits 32 bits, and so reads back as itself.
 -- A size `mag z` is n for n and for -(n + 1); a sum, a negation and a triple each make it larger by a little more than the paper's numbers would.
-use mathlib.Core.Bool.{true, false}
-use mathlib.Core.Path.{_≡_, refl, ap, _∙_}
+use mathlib.Core.Bool.{true}
+use mathlib.Core.Path.{_≡_, ap, _∙_}
 use Prim.Native.Nat.{ℕ, zero, suc, _+_, _*_, _≤_, _<_}
 use native.Mathlib.Omega.{arith}
 use lib.Dec.{leb}

@@ -4,7 +4,7 @@
 use borrow.Author.Needs.{needs}
 use Rattle.clib.proofs.calls.recharge_day.Statement.{statement}
 use Rattle.clib.proofs.calls.recharge_day.Tie as tie
-use mathlib.Core.Bool.{Bool, true, false, _&&_}
+use mathlib.Core.Bool.{Bool, true, _&&_}
 use mathlib.Core.Path.{_≡_, sym, ap, _∙_}
 use lib.Dec.{eqb}
 use lib.ListN.{length}

@@ -3,7 +3,7 @@
 use borrow.Author.Needs.{needs}
 use Rattle.clib.proofs.calls.recharge_fresh.Statement.{statement}
 use Rattle.clib.proofs.calls.recharge_fresh.Tie as tie
-use mathlib.Core.Bool.{true, false}
+use mathlib.Core.Bool.{true}
 use mathlib.Core.Path.{_≡_, sym, ap, _∙_}
 use borrow.Author.Tests.{not-true, not-false}
 use Rattle.paper.specs.Setup.{Climate, Setup}

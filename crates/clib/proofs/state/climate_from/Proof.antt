@@ -1,6 +1,5 @@
 -- `state::climate_from` meets its contract: a 32-bit setpoint as an index is the same number.
 use borrow.Author.Needs.{needs}
-use Rattle.clib.specs.Handed.{climateFrom}
 use Rattle.clib.proofs.state.climate_from.Statement.{statement}
 use Rattle.clib.proofs.state.climate_from.Tie as tie
 
