@@ -1,5 +1,5 @@
 // The frost index, by a winter worked by hand: thirty days of mean 14 degrees and 26 of mean 41.
-use crate::one_cell::Ground;
+use crate::one_cell::BARE;
 use crate::one_cell::lived;
 use crate::one_cell::remembered;
 use crate::one_cell::weather;
@@ -8,13 +8,8 @@ use crate::printing::shown;
 
 // One dry day of this mean temperature after this index: the index that it sets.
 fn frozen(day: u64, mean: i32, index: u64) -> u64 {
-    let ground = Ground {
-        curve: 100,
-        root: 0,
-        water: 0,
-    };
     let cell = lived(
-        ground,
+        BARE,
         0,
         0,
         remembered(0, index),

@@ -42,6 +42,13 @@ pub(crate) struct Ground {
     pub(crate) water: u32,
 }
 
+// Ground that passes all its water on.
+pub(crate) const BARE: Ground = Ground {
+    curve: 100,
+    root: 0,
+    water: 0,
+};
+
 pub(crate) fn remembered(yesterday: u64, frost: u64) -> Past {
     let memory = Memory {
         oldest: Depth(0),

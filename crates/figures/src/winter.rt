@@ -1,5 +1,5 @@
 // Snow and melt of rule 3, by the days of document 003.
-use crate::one_cell::Ground;
+use crate::one_cell::BARE;
 use crate::one_cell::lived;
 use crate::one_cell::remembered;
 use crate::one_cell::weather;
@@ -9,13 +9,8 @@ use records::wide;
 
 // 40 inches on a day of these temperatures leave snow exactly if they fall as snow: no day melts so much.
 fn snows(minimum: i32, mean: i32, maximum: i32) -> u64 {
-    let ground = Ground {
-        curve: 100,
-        root: 0,
-        water: 0,
-    };
     let cell = lived(
-        ground,
+        BARE,
         0,
         0,
         remembered(0, 0),
@@ -28,13 +23,8 @@ fn snows(minimum: i32, mean: i32, maximum: i32) -> u64 {
 // One day of document 003's table 3 on ground that passes all its water on: 1 for snow or 0 for rain, the snow that lies after it, and what reached
 // the ground.
 fn winter(date: u64, gross: u64, minimum: i32, mean: i32, maximum: i32, snow: u32) -> u32 {
-    let ground = Ground {
-        curve: 100,
-        root: 0,
-        water: 0,
-    };
     let cell = lived(
-        ground,
+        BARE,
         0,
         snow,
         remembered(0, 0),

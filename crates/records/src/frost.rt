@@ -6,14 +6,15 @@ ghost use Rattle.records.specs.Days.{tenths};
 use crate::quantities::FrostIndex;
 use crate::quantities::TenthF;
 
+// A thaw can take more than is there.
 fn left_of(kept: u64, lost: u64) -> u64
     ensures { λ r. ⌜ r ≡ kept - lost ⌝ }
 {
     if kept <= lost { 0 } else { kept - lost }
 }
 
-// For every index and every mean: whole hundreds of the index are taken apart, so that no product passes 64 bits, and a floor below zero is a quotient
-// rounded up that is added.
+// Answers every index and every mean. Whole hundreds of the index are taken apart from the rest, so that no product passes 64 bits; a floor below zero, taken
+// away, is a quotient rounded up that is added.
 pub fn frost_after(index: FrostIndex, mean: TenthF) -> FrostIndex
     ensures { λ r. ⌜ r .0 ≡ frostAfter (index .0) (tenths mean) ⌝ }
 {
