@@ -76,9 +76,8 @@ pub extern "C" fn recharge_fresh(
         soil,
         snow,
     );
-    let kept = start.past;
+    keep_past(start.past, memory, last_serial, frost_index);
     let verdict = start.verdict;
-    keep_past(kept, memory, last_serial, frost_index);
     returned_as(verdict)
 }
 
@@ -155,10 +154,8 @@ pub extern "C" fn recharge_day(
         past,
         day,
     );
-    let kept = answer.past;
-    let sums = answer.totals;
+    keep_past(answer.past, memory, last_serial, frost_index);
+    write_totals(answer.totals, totals);
     let verdict = answer.verdict;
-    keep_past(kept, memory, last_serial, frost_index);
-    write_totals(sums, totals);
     returned_as(verdict)
 }

@@ -14,8 +14,12 @@ use mir.Val.{toZ, ofZ}
 use borrow.Author.Tests.{not-true, not-false, eqb-true}
 use Rattle.theory.proofs.Cases.{and-left, and-right}
 use Rattle.paper.specs.Setup.{Climate, Setup}
-use Rattle.paper.specs.State.{Day}
-use Rattle.paper.specs.Day.{Results}
+use Rattle.paper.specs.State.{State, Day}
+use Rattle.paper.specs.Day.{Results, Outcome}
+use Rattle.records.specs.Grids.{climateAs}
+use Rattle.records.specs.Past.{pastAs, stateAs}
+use Rattle.records.specs.Days.{dayAs}
+use Rattle.records.specs.Answers.{outcomeAs}
 use Rattle.clib.specs.Handed.{Stores, climateFrom, setupFrom, storesFrom, keepable, resultsFrom, dayFrom}
 use Rattle.clib.proofs.HandedLaws.{lengths-known, day-lent, day-placed, day-narrow, day-handed}
 
@@ -43,7 +47,7 @@ the-day c =
 
 -- from where the past is kept back to the day's call, from there to the past and the day that it was handed, and from the lengths' test to the start
 abbrev rejected : tie.After-keep-past-arg3 → tie.After-rejected
-rejected c = c .before .before .before .before .before .before
+rejected c = c .before .before .before .before
 
 abbrev recharged : tie.After-keep-past-arg3 → tie.After-recharged
 recharged c = rejected c .before .before
@@ -74,6 +78,29 @@ day-from c = c .before .before .before
 
 abbrev start : tie.After-lengths-fit → tie.Start
 start c = c .before .before .before .before .before .before .before .before .before .before .before .before .before .before .before .before .before
+
+-- what the library was handed, seen from its call
+abbrev told : tie.After-day → tie.After-day-from
+told c = day-from (past-from c .before)
+
+abbrev lent : tie.After-day → tie.Start
+lent c = start (told c .before .before .before)
+
+abbrev handed-setup : tie.After-day → Setup
+handed-setup c = setup-in (lent c) (climateAs (told c .before .climate-from .result))
+
+abbrev handed-state : tie.After-day → State
+handed-state c = stateAs (lent c .args .soil .now) (lent c .args .snow .now) (past-from c .past-from .result)
+
+abbrev handed-day : tie.After-day → Day
+handed-day c = dayAs (told c .day-from .result)
+
+-- and what it answered
+abbrev answered : tie.After-day → Outcome
+answered c =
+    outcomeAs (c .day .result) (c .day .last .1 .1 .1 .1 .1 .1 .1 .0) (c .day .last .1 .1 .1 .1 .1 .1 .1 .1 .0)
+    (resultsFrom (c .day .last .1 .1 .1 .1 .1 .1 .1 .1 .1 .0) (c .day .last .1 .1 .1 .1 .1 .1 .1 .1 .1 .1 .0) (c .day .last .1 .1 .1 .1 .1 .1 .1 .1 .1 .1 .1 .0)
+    (c .day .last .1 .1 .1 .1 .1 .1 .1 .1 .1 .1 .1 .1 .0) (c .day .last .1 .1 .1 .1 .1 .1 .1 .1 .1 .1 .1 .1 .1 .0))
 
 -- from the end back to where the totals were written, and from there to where the past was kept
 abbrev totals : tie.After-returned-as → tie.After-totals
@@ -115,28 +142,36 @@ past-from-requires c κs = lengths-known (and-left _ _ (passed (day-from c .befo
 
 keep-past-requires : tie.Need-keep-past-requires
 unfolding keepable
-keep-past-requires c κs =
-    let past = past-from (called c) in
-    let day = day-from (past .before) in
-    (day-narrow _ _ _ _ (called c .day .ensures) (past .past-from .ensures .1) (day .day-from .ensures .1), lengths-known (and-left _ _ (passed (day .before .before))))
+keep-past-requires c κs = (
+  day-narrow (handed-setup (called c)) (handed-state (called c)) (the-results (lent (called c))) (handed-day (called c)) {o = answered (called c)}
+      (called c .day .ensures) (past-from (called c) .past-from .ensures .1) (told (called c) .day-from .ensures .1),
+  lengths-known (and-left _ _ (passed (told (called c) .before .before))),
+)
 
 write-totals-requires : tie.Need-write-totals-requires
 write-totals-requires c κs =
-    let tested = day-from (past-from (called (keeps c .before)) .before) .before .before in
-    eqb-true _ _ (and-right (keepable (the-stores (start (tested .before)))) _ (passed tested))
+    eqb-true _ _
+    (and-right (keepable (the-stores (lent (called (keeps c .before))))) _ (passed (told (called (keeps c .before)) .before .before)))
 
 returned-as-requires : tie.Need-returned-as-requires
-returned-as-requires c κs = day-placed _ _ _ _ (called (keeps (c .before .before .before) .before) .day .ensures)
+returned-as-requires c κs =
+    let at = called (keeps (c .before .before .before) .before) in
+    day-placed (handed-setup at) (handed-state at) (the-results (lent at)) (handed-day at) {o = answered at} (at .day .ensures)
+
+abbrev kept : tie.After-returned-as → tie.After-keep-past
+kept c = keeps (totals c .before .before)
+
+abbrev at : tie.After-returned-as → tie.After-day
+at c = called (kept c .before)
 
 returns-2 : tie.Need-returns-2
 returns-2 c =
-    let kept = keeps (totals c .before .before) in
-    let at = called (kept .before) in
-    let day = day-from (past-from at .before) in
-    let lent = start (day .before .before .before) in
-    day-handed (setup-in lent (the-climate lent)) (the-stores lent) (the-results lent) (lent .args .totals .now) (the-day lent) (passed (day .before .before))
-    (at .day .ensures) (ap (setup-in lent) (day .before .climate-from .ensures)) (day .day-from .ensures .0 ∙ written-back lent) (past-from at .past-from .ensures .0)
-    (c .returned-as .ensures) (kept .keep-past .ensures) (totals c .before .write-totals .ensures)
+    day-handed (setup-in (lent (at c)) (the-climate (lent (at c)))) (the-stores (lent (at c))) (the-results (lent (at c)))
+    (lent (at c) .args .totals .now) (the-day (lent (at c))) (passed (told (at c) .before .before))
+    {t = handed-setup (at c)} {p = pastAs (past-from (at c) .past-from .result)} {z = handed-day (at c)} {o = answered (at c)} (at c .day .ensures)
+    (ap (setup-in (lent (at c))) (told (at c) .before .climate-from .ensures))
+    (told (at c) .day-from .ensures .0 ∙ written-back (lent (at c))) (past-from (at c) .past-from .ensures .0)
+    (c .returned-as .ensures) (kept c .keep-past .ensures) (totals c .before .write-totals .ensures)
 
 pub recharge-day-spec : {M : Type 1} → statement M
 recharge-day-spec =
@@ -151,15 +186,15 @@ recharge-day-spec =
     keep-past-requires
     write-totals-requires
     returned-as-requires
-    (λ c. soil (keeps (totals c .before .before) .before) .soil .given)
-    (λ c. snow (keeps (totals c .before .before) .before) .snow .given)
+    (λ c. soil (kept c .before) .soil .given)
+    (λ c. snow (kept c .before) .snow .given)
     (λ c. memory (totals c .before .before) .memory .given)
     (λ c. last-serial (totals c .before .before) .last-serial .given)
     (λ c. frost-index (totals c .before .before) .frost-index .given)
-    (λ c. intercepted (keeps (totals c .before .before) .before) .intercepted .given)
-    (λ c. outflow (keeps (totals c .before .before) .before) .outflow .given)
-    (λ c. evapotranspired (keeps (totals c .before .before) .before) .evapotranspired .given)
-    (λ c. recharged (keeps (totals c .before .before) .before) .recharged .given)
-    (λ c. rejected (keeps (totals c .before .before) .before) .rejected .given)
+    (λ c. intercepted (kept c .before) .intercepted .given)
+    (λ c. outflow (kept c .before) .outflow .given)
+    (λ c. evapotranspired (kept c .before) .evapotranspired .given)
+    (λ c. recharged (kept c .before) .recharged .given)
+    (λ c. rejected (kept c .before) .rejected .given)
     (λ c. totals c .totals .given)
     returns-2)

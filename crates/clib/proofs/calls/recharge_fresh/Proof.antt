@@ -40,7 +40,7 @@ abbrev keeps : tie.After-returned-as → tie.After-keep-past
 keeps c = memory c .before
 
 abbrev snow : tie.After-keep-past-arg3 → tie.After-snow
-snow c = c .before .before .before .before .before
+snow c = c .before .before .before .before
 
 abbrev soil : tie.After-keep-past-arg3 → tie.After-soil
 soil c = snow c .before .before
