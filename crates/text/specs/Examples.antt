@@ -1,4 +1,4 @@
--- Worked examples of the program's text: the paper's own, and one for each kind of fault in the input.
+-- Worked examples of the program's text: the paper's own, one for each kind of fault in the input, and the program's setpoints.
 use mathlib.Core.Path.{_≡_}
 use mathlib.Core.List.{List, [], _∷_, _++_}
 use Prim.Native.Nat.{ℕ}
@@ -49,6 +49,14 @@ withCell cell output =
       output = output ∷ [];
     }
 
+-- rain of 30,000 on bare ground of curve number 75 after two frosty days and a dry spell: what is gone tells the condition that the day counts as
+abbrev pub rainAfter : String → String → Example
+rainAfter frosts rained =
+    record {
+      input = "1 1 1 366 1" ∷ "3 0 75 75 75 75 0 0 0 0 0 0 0 0 0 0" ∷ "1 3 1 0" ∷ frosts ∷ "3 3 30000 400 400 400 0" ∷ [];
+      output = "1 0 0 0 0 0 0 0" ∷ "2 0 0 0 0 0 0 0" ∷ rained ∷ "end 3" ∷ [];
+    }
+
 unfoldable pub examples : List Example
 examples =
     ofThePaper
@@ -82,4 +90,9 @@ examples =
       input = "1 1 1 366 1" ∷ "3 0 75 75 75 75 0 0 0 0 0 0 0 0 0 0" ∷ "1 3 1 0 5 1 0 -20 -10 0 0 7 2 0 0 0 0 0" ∷ [];
       output = "5 0 0 0 0 0 0 0" ∷ "refused 8 at 0" ∷ [];
     }
+    -- frozen ground: a frost index of 55,999 is condition I, 56,000 and 82,999 are II, 83,000 is III
+    ∷ rainAfter "1 1 0 -626 -626 -626 0 2 2 0 116 116 116 0" "3 30000 0 0 0 27539 2461 0"
+    ∷ rainAfter "1 1 0 -625 -625 -625 0 2 2 0 115 115 115 0" "3 30000 0 0 0 20393 9607 0"
+    ∷ rainAfter "1 1 0 -625 -625 -625 0 2 2 0 -386 -386 -386 0" "3 30000 0 0 0 20393 9607 0"
+    ∷ rainAfter "1 1 0 -624 -624 -624 0 2 2 0 -387 -387 -387 0" "3 30000 0 0 0 11819 18181 0"
     ∷ []
