@@ -1,12 +1,12 @@
 -- The paper's answers as C gets them: a call whose fixed slices have their lengths hands back the paper's answer, number by number; one with
--- another length hands back what was lent. A refused call writes the memory and the last serial as they were.
+-- another length hands back what was lent. A refused day writes memory, last serial and frost index as they were.
 use mathlib.Core.Bool.{true, false, _&&_}
 use mathlib.Core.List.{List, [], _∷_}
 use mathlib.Core.Path.{_≡_, refl, sym, ap, _∙_}
 use Prim.Native.Nat.{ℕ, _<_, _≤_}
 use native.Mathlib.Omega.{arith}
 use lib.Dec.{eqb}
-use lib.ListN.{length}
+use lib.ListN.{length, getD}
 use borrow.Author.Tests.{eqb-true}
 use Rattle.theory.proofs.Cases.{byCases, and-left, and-right, cond-true, cond-false}
 use Rattle.paper.specs.Setup.{Setup}
@@ -15,12 +15,12 @@ use Rattle.paper.specs.Refusals.{Verdict, accepted, refused, numberOf, placeOf,
 use Rattle.paper.specs.Day.{Fresh, freshAs, freshOf, Outcome, Results, verdictOf, outcomeAs, nextState, dayOf}
 use Rattle.paper.proofs.DayLaws.{sound-day, kept-frost}
 use Rattle.clib.specs.Narrow.{narrow, NarrowMemory, Narrow}
-use Rattle.clib.specs.Numbers.{returned, memoryFrom, memoryList, noSerial, lastFrom, lastNumber, lastList, pastFrom, Kept, lengthsFit, Lengths, totalsList}
+use Rattle.clib.specs.Numbers.{returned, memoryFrom, memoryList, noSerial, lastFrom, lastNumber, lastList, frostList, pastFrom, Kept, lengthsFit, Lengths, totalsList}
 use Rattle.clib.specs.Handed.{Stores, storesFrom, stateFrom, storesOf, begun, keepable, begunAs, begunIf, freshFrom, handed, handedAs, handedIf, dayGives}
 use Rattle.clib.proofs.PlaceLaws.{setup-near, day-near}
 
 -- nothing is lost between C's numbers and the paper's: what was read is written as it was
-pub memory-back : (l : List ℕ) → length l ≡ 5 → memoryList (memoryFrom l) ≡ l
+memory-back : (l : List ℕ) → length l ≡ 5 → memoryList (memoryFrom l) ≡ l
 unfolding memoryList memoryFrom
 memory-back [] h = absurd (omega arith)
 memory-back (u ∷ []) h = absurd (omega arith)
@@ -30,7 +30,7 @@ memory-back (u ∷ v ∷ w ∷ x ∷ []) h = absurd (omega arith)
 memory-back (u ∷ v ∷ w ∷ x ∷ y ∷ []) h = refl
 memory-back (u ∷ v ∷ w ∷ x ∷ y ∷ z ∷ l) h = absurd (omega arith)
 
-pub last-back : (l : List ℕ) → length l ≡ 1 → lastList (lastFrom l) ≡ l
+last-back : (l : List ℕ) → length l ≡ 1 → lastList (lastFrom l) ≡ l
 unfolding lastList lastNumber lastFrom
 last-back [] h = absurd (omega arith)
 last-back (x ∷ []) h =
@@ -38,6 +38,12 @@ last-back (x ∷ []) h =
     (λ e. rw (cond-true (eqb x noSerial) e) (ap (λ (n : ℕ). n ∷ []) (sym (eqb-true x noSerial e))))
     (λ e. rw (cond-false (eqb x noSerial) e) refl)
 last-back (x ∷ y ∷ l) h = absurd (omega arith)
+
+frost-back : (l : List ℕ) → length l ≡ 1 → frostList (getD l 0 0) ≡ l
+unfolding frostList
+frost-back [] h = absurd (omega arith)
+frost-back (x ∷ []) h = refl
+frost-back (x ∷ y ∷ l) h = absurd (omega arith)
 
 -- what the test of the lengths says of them
 pub lengths-known : {memory last frost : List ℕ} → lengthsFit (length memory) (length last) (length frost) ≡ true → Lengths memory last frost
@@ -48,6 +54,13 @@ lengths-known {memory} {last} e =
       one = eqb-true _ _ (and-right (eqb (length memory) 5) _ both);
       index = eqb-true _ _ (and-right (eqb (length memory) 5 && eqb (length last) 1) _ e);
     }
+
+-- so a refused day, which hands back the state that was read, leaves every slice of the state as it was lent
+pub stores-back : (l : Stores) → keepable l ≡ true → storesOf (stateFrom l) ≡ l
+unfolding keepable storesOf stateFrom pastFrom
+stores-back l fits =
+    let known : Lengths (l .memory) (l .last) (l .frost) = lengths-known fits in
+    λ k. storesFrom (l .soil) (l .snow) (memory-back (l .memory) (known .five) k) (last-back (l .last) (known .one) k) (frost-back (l .frost) (known .index) k)
 
 -- a fresh state
 module _ (s : Setup) (soil snow : List ℕ) where

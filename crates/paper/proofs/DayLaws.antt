@@ -177,7 +177,7 @@ module _ (s : Setup) (st : State) (r : Results) (d : Day) (ok : SoundDay s st r 
   kept-frost =
       let fits : dayFits d ≡ true = ok .day in
       let cold : leZ leastTemperature (d .mean) ≡ true = search (and-left, and-right) depth 12 in
-      omega (arith, ok .frost, frost-kept (st .past .frost) (d .mean) (ok .frost) cold)
+      omega (arith, frost-kept (st .past .frost) (d .mean) (ok .frost) cold)
 
   -- an accepted day keeps the state within its limits
   pub kept-soil : (i : ℕ) → i < n → figuresOf s st d i .soil ≤ mostSoilOf (cell s i)

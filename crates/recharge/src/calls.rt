@@ -17,7 +17,7 @@ use records::MOST_CELLS;
 use records::Past;
 use records::Verdict;
 
-// One day: tests 1 to 10, then the five results and the two stores of every cell, the totals, the next memory and the serial. A day refused hands
+// One day: tests 1 to 10, then the five results and the two stores of every cell, the totals, and the next memory, serial and frost index. A day refused hands
 // back what it was given, and no totals.
 pub fn day(
     grid: Grid,

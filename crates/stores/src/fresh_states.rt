@@ -20,7 +20,7 @@ use records::Verdict;
 use records::stores_each;
 use survey::survey;
 
-// No rain yet, and no serial.
+// No rain yet, no serial and no frost.
 fn begin(verdict: Verdict) -> Start
     ensures { λ r. ⌜ (r .verdict ≡ verdict) × (pastAs (r .past) ≡ noPast) ⌝ }
 {
@@ -49,7 +49,7 @@ fn fill(
     }
 }
 
-// A fresh state: tests 1 to 6, then soil full (0 on open water), snow 0, five zeros and no serial.
+// A fresh state: tests 1 to 6, then soil full (0 on open water), snow 0, five zeros, no serial and no frost.
 pub fn fresh(
     grid: Grid,
     climate: Climate,

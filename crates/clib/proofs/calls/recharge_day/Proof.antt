@@ -158,6 +158,7 @@ returned-as-requires c κs =
     let at = called (keeps (c .before .before .before) .before) in
     day-placed (handed-setup at) (handed-state at) (the-results (lent at)) (handed-day at) {o = answered at} (at .day .ensures)
 
+-- where the past was kept and the day called, seen from the end
 abbrev kept : tie.After-returned-as → tie.After-keep-past
 kept c = keeps (totals c .before .before)
 
