@@ -1,59 +1,9 @@
 /* The vectors on frozen ground (M-106). A text starts without frost and prints no index, so each brings the index to a day
  * whose runoff tells the condition that the day counts as, and foretells the lines of such days. */
 #include "vectors.h"
+#include "vectors_foretold.h"
 
-#include <stdarg.h>
 #include <stdio.h>
-#include <stdlib.h>
-
-enum { GROWING = 150, DORMANT = 20 }; /* a day of the season 120 to 270, and one outside it */
-
-/* ---------------------------------------------------------------- lines foretold */
-
-static char ends[20000];
-static size_t ends_used;
-
-__attribute__((format(printf, 1, 2))) static void foretell(const char *format, ...)
-{
-    va_list arguments;
-
-    va_start(arguments, format);
-    int n = vsnprintf(ends + ends_used, sizeof ends - ends_used, format, arguments);
-    va_end(arguments);
-    if (n < 0 || ends_used + (size_t)n >= sizeof ends)
-        exit(2);
-    ends_used += (size_t)n;
-}
-
-/* The line of a day on one bare cell: of the water w so much is gone. */
-static void foretell_day(int serial, int gross, int w, int gone, int snow)
-{
-    int sinks = w - gone, recharged = sinks < 6000 ? sinks : 6000;
-
-    foretell("%d %d 0 0 %d %d %d %d\n", serial, gross, recharged, sinks - recharged, gone, snow);
-}
-
-/* The vector that ends in the lines foretold, the last of so many days. */
-static void frost_vector(const char *name, int days, const char *reason)
-{
-    foretell("end %d", days);
-    vector(name, ends, reason);
-    ends_used = 0;
-}
-
-/* ---------------------------------------------------------------- cells and days */
-
-/* One cell without soil and interception that runs off over the edge. */
-static void put_bare(int curve)
-{
-    put("1 1 120 270\n1\n"), put_cover(3, 0, curve, 6000, 0, 0, 0), put("1 3 2 200\n");
-}
-
-/* A day of one temperature. */
-static void put_day(int serial, int day, int gross, int mean)
-{
-    put("%d %d %d %d %d %d 0\n", serial, day, gross, mean, mean, mean);
-}
 
 /* ---------------------------------------------------------------- to the setpoints and one below */
 
@@ -83,7 +33,7 @@ static void setpoint(int antecedent, int day, int sum, int which, int counts_as)
     snprintf(name, sizeof name, "%s, condition %s, frost index %d,%03d", day == GROWING ? "growing" : "dormant",
              names[antecedent], brought[which].index / 1000, brought[which].index % 1000);
     snprintf(reason, sizeof reason, "counts as %s", names[counts_as]);
-    frost_vector(name, 4, reason);
+    foretold_vector(name, 4, reason);
 }
 
 static void setpoints(void)
@@ -118,7 +68,7 @@ static void melt_day(int mean, const struct melt *m, const char *reason)
     put("7 %d 0 100 %d 500 0\n", DORMANT, mean);
     foretell_day(7, 0, 5900, m->gone, 54100);
     snprintf(name, sizeof name, "melt at a mean of %d, frost index %d,%03d", mean, m->index / 1000, m->index % 1000);
-    frost_vector(name, 7, reason);
+    foretold_vector(name, 7, reason);
 }
 
 static void melt_days(void)
@@ -179,7 +129,7 @@ static void frosty_winters(void)
         for (int i = 1; i <= 56; i++)
             put("%d %d %d %s 0\n", i, winters[k].day, winters[k].water, i <= 30 ? "0 140 500" : "300 410 500");
         foretell_spells(1, winters[k].spells, winters[k].water, winters[k].gone);
-        frost_vector(winters[k].name, 56, winters[k].reason);
+        foretold_vector(winters[k].name, 56, winters[k].reason);
     }
 }
 
@@ -192,19 +142,19 @@ static void coldest(void)
 
     put_bare(75), put("1 %d 30000 -1000 -1000 1500 0\n", DORMANT);
     foretell_day(1, 30000, 30000, off_75[2], 0);
-    frost_vector("frost on the first day", 1, "the index just set, 73,334, decides, not yesterday's: I counts as II");
+    foretold_vector("frost on the first day", 1, "the index just set, 73,334, decides, not yesterday's: I counts as II");
 
     put_bare(95);
     for (int i = 1; i <= 360; i++)
         put_day(i, GROWING, i <= 300 ? 0 : 2700, i <= 300 ? -1000 : 1500);
     foretell_spells(301, hot, 2700, gone);
-    frost_vector("300 of the coldest days, then the hottest", 360, "the index reaches 2,444,186, and 23 hot days are III");
+    foretold_vector("300 of the coldest days, then the hottest", 360, "the index reaches 2,444,186, and 23 hot days are III");
 
     put_bare(95), put_day(1, GROWING, 0, -1000), put_day(2, GROWING, 0, -1000);
     for (int i = 3; i <= 62; i++)
         put("%d %d 2700 320 320 500 0\n", i, GROWING);
     foretell_spells(3, fading, 2700, gone);
-    frost_vector("frost that fades at freezing", 62, "from 144,467 by 3 hundredths a day, rounded up: 18 days of III, 13 of II");
+    foretold_vector("frost that fades at freezing", 62, "from 144,467 by 3 hundredths a day, rounded up: 18 days of III, 13 of II");
 }
 
 /* ---------------------------------------------------------------- grids */
@@ -216,16 +166,16 @@ static void frozen_grids(void)
     put("2 1 120 270\n2\n"), put_cover(3, 0, 75, 6000, 0, 0, 0), put_cover(4, 0, 75, 100000, 0, 0, 0);
     put("1 3 2 200\n0 4 2 200\n"), put_brought(1, DORMANT, AT_SECOND);
     foretell("3 60000 0 0 54181 5819 0 0\n");
-    frost_vector("a frozen ridge over a valley", 3, "18,181 units run off the ridge and recharge in the valley");
+    foretold_vector("a frozen ridge over a valley", 3, "18,181 units run off the ridge and recharge in the valley");
 
     put("2 1 120 270\n2\n"), put_cover(3, 0, 75, 6000, 0, 0, 0), put_cover(4, 1, 75, 6000, 0, 0, 0);
     put("1 3 2 200\n0 4 2 200\n"), put_brought(1, DORMANT, AT_SECOND);
     foretell("3 60000 0 0 6000 5819 48181 0\n");
-    frost_vector("a frozen ridge over a lake", 3, "what falls on the lake and what runs off the ridge is gone");
+    foretold_vector("a frozen ridge over a lake", 3, "what falls on the lake and what runs off the ridge is gone");
 
     put("1 1 120 270\n1\n"), put_cover(3, 0, 75, 6000, 0, 0, 0), put("0 3 2 200\n"), put_brought(1, DORMANT, AT_SECOND);
     foretell_day(3, 30000, 30000, 0, 0);
-    frost_vector("a closed depression in frost", 3, "its outflow is 0, frozen or not");
+    foretold_vector("a closed depression in frost", 3, "its outflow is 0, frozen or not");
 }
 
 void frost_cases(void)
