@@ -7,13 +7,9 @@
 set -eu
 cd "$(dirname "$0")/.."
 mode=${1:-check}
-made=bench/build
-mkdir -p $made
-. bench/files.sh
-CC=${CC:-cc}
+. bench/tables.sh
 
-# shellcheck disable=SC2046,SC2086
-$CC -std=c11 -Wall -Wextra -Wconversion -Wshadow -O2 $(printf 'bench/%s.c ' outside $PLAIN) -o $made/outside
+plain outside
 $made/outside > $made/figures.stdout
 [ "$mode" != write ] || cp $made/figures.stdout crates/figures/stdout
 cmp $made/figures.stdout crates/figures/stdout
@@ -110,11 +106,5 @@ END {
     print "| none (`end`) | " count[0] " | | |"
 }' docs/vectors.txt > $made/refusals.md
 
-# The document with each table between its markers.
-awk -v made=$made '
-/^<!-- end -->$/ { skip = 0 }
-!skip { print }
-/^<!-- made: [a-z]* -->$/ { while ((getline line < (made "/" $3 ".md")) > 0) print line; skip = 1 }' docs/VECTORS.md > $made/VECTORS.md
-[ "$mode" != write ] || cp $made/VECTORS.md docs/VECTORS.md
-cmp $made/VECTORS.md docs/VECTORS.md
+tables docs/VECTORS.md "$mode"
 echo 'the outside tables are as docs/VECTORS.md has them'

@@ -1,0 +1,80 @@
+#!/bin/sh
+# The tables of examples/README.md on frozen ground, from the figures that the plain C has for every cell of the year: once as if
+# the ground never froze, with setpoints that no index of that year reaches, and once with the program's own.
+#
+#     bench/examples.sh          checks; writes nothing outside bench/build/
+#     bench/examples.sh write    writes the tables
+set -eu
+cd "$(dirname "$0")/.."
+. bench/tables.sh
+
+plain plain_cells
+$made/plain_cells 2000000 2000000 < examples/year/year.txt > $made/never.cells
+$made/plain_cells 56000 83000 < examples/year/year.txt > $made/frozen.cells
+
+# What both tables read of the text and of the two runs: by serial, and of each cell on the day SHOWN.
+# shellcheck disable=SC2016
+read_year='
+FILENAME ~ /year.txt$/ && FNR == 1 { wide = $1; high = $2; first = $3; last = $4 }
+FILENAME ~ /year.txt$/ && NF == 16 { water[$1] = $2; for (k = 1; k <= 4; k++) curve[$1, k] = $(2 + k) }
+FILENAME ~ /year.txt$/ && FNR > 1 && NF == 4 { way[cells] = $1; cover[cells] = $2; group[cells] = $3; cells++ }
+FILENAME ~ /year.txt$/ && NF == 7 { days++; day[$1] = $2; gross[$1] = $3; snows[$1] = 3 * $5 - ($6 - $4) <= 960 }
+FILENAME !~ /year.txt$/ && FNR == 1 { run++ } # 1 never frozen, 2 frozen
+$1 == "day" { serial = $2; index_of[serial] = $3; for (k = 1; k <= 3; k++) total[run, serial, k] = $(6 + k) }
+$1 == "cell" && $2 == 0 && run == 2 { lies[serial] = $9 }
+$1 == "cell" && serial == shown { runoff[run, $2] = $4; recharged[run, $2] = $6; rejected[run, $2] = $7 }
+function by_rain(s,    sum, k, wet) { # rule 5
+    for (k = s - 5; k < s; k++) sum += gross[k]
+    wet = day[s] >= first && day[s] <= last
+    return sum < (wet ? 14000 : 5000) ? 1 : sum > (wet ? 21000 : 11000) ? 3 : 2
+}
+function counts_as(s,    c) { # M-106
+    c = by_rain(s)
+    return index_of[s] >= 83000 ? 3 : index_of[s] >= 56000 && c == 1 ? 2 : c
+}
+function number(n, condition) {
+    if (condition == 1) return int(100000 * n / (228100 - 1281 * n) + 0.5)
+    return condition == 3 ? int(100000 * n / (42700 + 573 * n) + 0.5) : n
+}
+BEGIN { split("I II III", condition, " "); split("A B C D", letter, " ") }'
+
+# The days of March on which the two runs differ, and all days together; the snow is that of cell 0.
+awk -v shown=0 "$read_year"'
+function differ(s,    k, n) { for (k = 1; k <= 3; k++) n += total[1, s, k] != total[2, s, k]; return n }
+function pairs(s,    k, row) { for (k = 1; k <= 3; k++) row = row " " total[1, s, k] " | " total[2, s, k] " |"; return row }
+END {
+    print "| day | falls as snow | melts | frost index | condition by the rain | counts as | recharged, never frozen | frozen | rejected, never frozen | frozen | gone, never frozen | frozen |\n|---|---|---|---|---|---|---|---|---|---|---|---|"
+    for (s = 1; s <= days; s++) {
+        for (k = 1; k <= 3; k++) { total[1, "all", k] += total[1, s, k]; total[2, "all", k] += total[2, s, k] }
+        if (s < 60 || s > 90 || !differ(s)) continue
+        fell = snows[s] ? gross[s] : 0
+        printf "| %d, %d March | %.4f | %.4f | %d | %s | %s |%s\n", s, s - 59, fell / 10000, (lies[s - 1] + fell - lies[s]) / 10000, index_of[s], condition[by_rain(s)], condition[counts_as(s)], pairs(s)
+    }
+    print "| all 365 days | | | | | |" pairs("all")
+}' examples/year/year.txt $made/never.cells $made/frozen.cells > $made/march.md
+
+# 13 March by cover and group: the lowest such cell to which no other leads.
+awk -v shown=72 "$read_year"'
+BEGIN {
+    split("1 2 4 8 16 32 64 128", ways, " "); split("1 1 0 -1 -1 -1 0 1", right, " "); split("0 1 1 1 0 -1 -1 -1", down, " ")
+    split("2 field;3 grass;4 forest;6 wetland;8 shrub;12 village", named, ";")
+    for (k in named) { split(named[k], word, " "); name[word[1]] = word[2] }
+}
+END {
+    for (i = 0; i < cells; i++)
+        for (k = 1; k <= 8; k++) {
+            c = i % wide + right[k]; r = int(i / wide) + down[k]
+            if (way[i] == ways[k] && !water[cover[i]] && c >= 0 && c < wide && r >= 0 && r < high) fed[r * wide + c] = 1
+        }
+    for (i = cells - 1; i >= 0; i--) { count[cover[i], group[i]]++; if (!fed[i]) lowest[cover[i], group[i]] = i }
+    print "| cover and soil group | cells | curve number by the rain | in frost | runoff, never frozen | frozen | recharged, never frozen | frozen | rejected, never frozen | frozen |\n|---|---|---|---|---|---|---|---|---|---|"
+    for (c = 1; c <= 255; c++)
+        for (g = 1; g <= 4; g++) {
+            if (!((c, g) in lowest) || water[c]) continue
+            i = lowest[c, g]
+            print "| " name[c] ", " letter[g] " | " count[c, g] " | " number(curve[c, g], by_rain(shown)) " | " number(curve[c, g], counts_as(shown)) " | " runoff[1, i] " | " runoff[2, i] " | " recharged[1, i] " | " recharged[2, i] " | " rejected[1, i] " | " rejected[2, i] " |"
+        }
+}' examples/year/year.txt $made/never.cells $made/frozen.cells > $made/kinds.md
+
+tables examples/README.md "${1:-check}"
+echo 'the tables of examples/README.md are as the plain C has them'
