@@ -2,8 +2,8 @@
  *
  * Every implementation offers the same three functions under its own prefix
  * (plain_, fast_, ...), so that they can be linked into one program and compared
- * cell by cell. The law is document 01 with document 02's request M-106, frozen ground; "rule"
- * and "test" numbers are document 01's.
+ * cell by cell. The law is document 01 as the requests of document 02 that have landed amend it;
+ * "rule" and "test" numbers are document 01's.
  *
  * Each function returns 0 when it accepts, else  number * 2^32 + place  of the
  * refusal. Depths are in units of 0.0001 inch, temperatures in tenths of a degree

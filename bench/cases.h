@@ -56,13 +56,16 @@ uint64_t below(uint64_t n);                      /* 0 to n - 1 */
 bool chance(unsigned percent);
 uint64_t edgy(uint64_t lowest, uint64_t highest); /* often at or near an end */
 
-/* Facts of a valid grid, found apart from the implementations (cases_grid.c, cases_frost.c). */
+/* Facts of a valid grid, found apart from the implementations (cases_grid.c, cases_day.c,
+ * cases_frost.c). */
 const uint32_t *case_entry(const struct grid_case *g, uint32_t cell);
 bool case_is_water(const struct grid_case *g, uint32_t cell);
 uint32_t case_capacity(const struct grid_case *g, uint32_t cell);
 /* The next cell, or CASE_LEAVES or CASE_STAYS. */
 enum { CASE_LEAVES = -1, CASE_STAYS = -2 };
 int32_t case_next(const struct grid_case *g, uint32_t cell);
+/* What a day of this maximum melts of any store (M-100). */
+uint32_t case_melt(int32_t maximum);
 /* The frost index that a day of this mean temperature sets (M-106). */
 uint32_t case_frost(uint32_t index, int32_t mean);
 
@@ -72,6 +75,9 @@ void make_grid(struct grid_case *g);
 void make_setpoints(struct grid_case *g);
 void make_state(const struct grid_case *g, struct state_case *s);
 void make_day(const struct grid_case *g, const struct state_case *s, struct day_case *d);
+
+/* On a day without snowfall: gives a cell the snow that the day melts, or a unit less or more. */
+void aim_melt(const struct grid_case *g, struct state_case *s, const struct day_case *d);
 
 /* Moves a setpoint to where the day will set the frost index, or to one beside it. */
 void aim_setpoint(struct grid_case *g, const struct state_case *s, const struct day_case *d);

@@ -1,5 +1,5 @@
 #!/bin/sh
-# Compares the proved library with document 01 and M-106 of document 02 written again in C, plain and fast.
+# Compares the proved library with document 01, as document 02 amends it, written again in C, plain and fast.
 #
 #     ./compare.sh [CASES [TEXTS [SEED]]]
 #

@@ -1,4 +1,4 @@
-/* Document 01 and M-106 for speed, with the same interface as plain.c.
+/* Document 01, as document 02 amends it, for speed, with the same interface as plain.c.
  *
  * What it does differently:
  * - a 256-entry index from cover code to table entry;
@@ -99,7 +99,7 @@ uint64_t fast_day(BALANCE_SETUP_PARAMETERS, BALANCE_STATE_PARAMETERS,
 
     const bool growing = first <= day_of_year && day_of_year <= last;
     const bool snows = 3 * mean - (maximum - minimum) <= 960;
-    const uint32_t most_melt = maximum > 320 ? 295 * (uint32_t)(maximum - 320) / 9 : 0;
+    const uint32_t most_melt = maximum > 320 ? 12500 * (uint32_t)(maximum - 320) / 381 : 0;
     uint64_t sum = 0;
     bool bad_past = frost_index[0] > MAX_FROST;
     for (int i = 0; i < BALANCE_MEMORY; i++) {
@@ -126,7 +126,7 @@ uint64_t fast_day(BALANCE_SETUP_PARAMETERS, BALANCE_STATE_PARAMETERS,
     if (buried != cells)
         return REFUSE(10, buried);
 
-    /* Rules 1 to 8. The water of a whole grid, at most 4,096 x (400,000 + 38,677), fits 32
+    /* Rules 1 to 8. The water of a whole grid, at most 4,096 x (400,000 + 38,713), fits 32
      * bits, so every inflow does. */
     uint64_t all_intercepted = 0, all_evapotranspired = 0, all_recharged = 0, all_rejected = 0;
     uint64_t gone = 0, stored = 0;

@@ -1,4 +1,5 @@
-/* Document 01's worked example and its "Figures to check against", and M-106's (figures_frost.c).
+/* Document 01's worked example and its "Figures to check against", of melt those of M-100, and M-106's
+ * (figures_frost.c).
  *
  * Every figure is checked of the plain C's single rules, and again of every implementation in the
  * table through whole days of a one-cell grid. Prints each figure; fails if any differs. */
@@ -62,7 +63,8 @@ static void rules(void)
     figure("rule 3", "mean 361, span 280 to 400: rain", plain_falls_as_snow(280, 361, 400), 0);
     figure("rule 3", "melt at a maximum of 320", plain_melt(10000000, 320), 0);
     figure("rule 3", "melt at a maximum of 321", plain_melt(10000000, 321), 32);
-    figure("rule 3", "melt at a maximum of 500", plain_melt(10000000, 500), 5900);
+    figure("rule 3", "melt at a maximum of 500", plain_melt(10000000, 500), 5905);
+    figure("rule 3", "melt at a maximum of 1,500", plain_melt(10000000, 1500), 38713);
 
     figure("rule 8", "F(0)", plain_retention(0), 1048576);
     figure("rule 8", "F(10)", plain_retention(10), 1008332);
@@ -151,7 +153,8 @@ static void days(const struct implementation *x)
     figure(x->name, "mean 361, span 280 to 400: rain", snows(x, 280, 361, 400), 0);
     figure(x->name, "melt at a maximum of 320", melt(x, 320), 0);
     figure(x->name, "melt at a maximum of 321", melt(x, 321), 32);
-    figure(x->name, "melt at a maximum of 500", melt(x, 500), 5900);
+    figure(x->name, "melt at a maximum of 500", melt(x, 500), 5905);
+    figure(x->name, "melt at a maximum of 1,500", melt(x, 1500), 38713);
 
     struct one_cell dry = {.curve = 75, .root = 250, .water = 200, .soil = 50000,
                            .minimum = 600, .mean = 700, .maximum = 800, .potential = 2000};

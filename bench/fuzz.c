@@ -21,7 +21,7 @@
 /* ---------------------------------------------------------------- runs */
 
 /* A run of some days of a valid grid, with a damaged call beside some of them; on some a setpoint
- * moves to the frost index that the day will set. */
+ * moves to the frost index that the day will set, or a cell's snow to what it will melt. */
 static void run_days(struct grid_case *g, struct state_case *s)
 {
     static struct state_case spoilt;
@@ -31,6 +31,8 @@ static void run_days(struct grid_case *g, struct state_case *s)
         make_day(g, s, &day);
         if (chance(40))
             aim_setpoint(g, s, &day);
+        if (chance(30))
+            aim_melt(g, s, &day);
         if (chance(50)) {
             spoilt = *s;
             spoilt_day = day;
@@ -156,6 +158,7 @@ int main(int argc, char **argv)
         reached_often("text", tally.text, 11, text_cases);
         for (int i = 0; i < CASE_FIXED; i++)
             enough("a slice with a length of its own had another", tally.fixed[i], cases);
+        melt_often(cases);
         frost_often(cases);
         enough("a pair of runs had a day in frost", tally.frosty_pair_days, cases);
         enough("a text's frost index was near a setpoint", tally.winter_hits, text_cases);

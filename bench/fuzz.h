@@ -71,6 +71,14 @@ void check_account(const struct grid_case *g, const struct day_case *d);
 /* Takes the state over that came back in worlds[0]. */
 void take_state(const struct grid_case *g, struct state_case *s);
 
+/* ---------------------------------------------------------------- melt: fuzz_melt.c */
+
+/* Holds the snow of an accepted day, in worlds[0], to rule 3 with M-100's rate, and counts where the rate had a say. */
+void check_melt(const struct grid_case *g, const struct day_case *d);
+
+void report_melt(void);
+void melt_often(uint64_t cases);
+
 /* ---------------------------------------------------------------- frozen ground: fuzz_frost.c */
 
 /* Holds the frost index of an accepted day, in worlds[0], to M-106, and counts what the frost did. */

@@ -54,6 +54,7 @@ void check_account(const struct grid_case *g, const struct day_case *d)
             fail("memory %d is not the next", i);
     if (w->last_serial[0] != d->serial)
         fail("the last serial is not the day's");
+    check_melt(g, d);
     check_frost(g, d);
     tally.cell_days += g->cells;
 }

@@ -71,6 +71,7 @@ void report(uint64_t cases, uint64_t text_cases, uint64_t seed, double case_time
     printf("pairs of runs: %" PRIu64 ", of %" PRIu64 " days, %" PRIu64 " of them at or above the first setpoint, with %" PRIu64
            " larger figures\n",
            tally.pairs, tally.pair_days, tally.frosty_pair_days, tally.wetter_figures);
+    report_melt();
     report_frost();
     printf("texts of winters besides: %" PRIu64 ", with %" PRIu64 " days whose frost index is a setpoint or one beside it\n",
            tally.winters, tally.winter_hits);

@@ -1,6 +1,6 @@
 /* What crates/figures must print, from the plain rules: curve numbers in the three conditions, soil after dry spells,
- * the worked capacity, the winter days of document 003's table 3, a winter's frost index, and the two refusals that no
- * text reaches. */
+ * the worked capacity, the winter days of document 003's table 3, the melt by the maximum, a winter's frost index, and the
+ * two refusals that no text reaches. */
 #include "balance.h"
 #include "plain.h"
 #include "text.h"
@@ -50,6 +50,14 @@ static void winter_days(void)
         printf("snow %" PRId64 " %d %" PRId64 " %" PRId64 "\n", i + 2, snows, store,
                d[0] - snowfall + melt);
     }
+}
+
+static void melts(void)
+{
+    static const int64_t maxima[] = {320, 321, 325, 330, 410, 500, 701, 1000, 1500};
+
+    for (int i = 0; i < 9; i++)
+        printf("melt %" PRId64 " %" PRId64 "\n", maxima[i] - 320, plain_melt(1000000, maxima[i]));
 }
 
 /* The frost index of thirty days of mean 140, from no frost on, and of 26 days of mean 410 after them. */
@@ -102,6 +110,7 @@ int main(void)
     retention();
     printf("capacity 200 250 %" PRId64 "\n", plain_capacity(200, 250));
     winter_days();
+    melts();
     frost_days();
     refusals();
     return 0;

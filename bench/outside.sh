@@ -84,6 +84,15 @@ FNR == NR { if ($1 == "snow") { snows[$2] = $3; store[$2] = $4; reached[$2] = $5
     printf "| %d | %s | %s | %s | %s | %.1f | %s | %s | %.1f | %s | %.4f | %.4f |\n", $1, $2, $4, $5, $3, by4, by4 <= 32 ? "snow" : "rain", snows[$1] ? "snow" : "rain", by11, by11 <= 32 ? "snow" : "rain", store[$1] / 10000, reached[$1] / 10000
 }' $ours bench/outside/snow_days.csv > $made/snow.md
 
+# The melt beside the millimetres and the inches that documents 003 and 004 print, in units.
+awk '
+$1 != "melt" { next }
+{
+    if (!head++) print "| maximum, °F | degrees Celsius above freezing | millimetres | 1.5 mm a degree, in units | ours | 0.059 inch a degree, in units | ours before M-100 |\n|---|---|---|---|---|---|---|"
+    warm = $2 / 18
+    printf "| %.1f | %.3f | %.3f | %.2f | %d | %.2f | %d |\n", 32 + $2 / 10, warm, 1.5 * warm, 1.5 * warm / 0.00254, $3, 590 * warm, 295 * $2 / 9
+}' $ours > $made/melt.md
+
 # The frost index beside document 003's equation 7 without snow, in thousandths, and what it makes of condition I.
 awk '
 $1 != "frost" { next }

@@ -1,4 +1,4 @@
-/* Document 01, with M-106 of document 02, as plainly as it can be said in C: one function a rule
+/* Document 01, as document 02 amends it, as plainly as it can be said in C: one function a rule
  * (plain_rules.c) and one a test (plain_tests.c); here the check, the fresh state and the day made
  * of them. Nothing here is meant to be fast. */
 #include "plain_setup.h"

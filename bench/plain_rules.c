@@ -1,4 +1,4 @@
-/* Document 01's rules for one cell's day and M-106's for the frost, one function a rule. */
+/* Document 01's rules for one cell's day, as document 02 amends them, one function a rule. */
 #include "plain_setup.h"
 
 __extension__ typedef unsigned __int128 wide; /* a squared, in rule 6, can pass 64 bits */
@@ -33,13 +33,13 @@ bool plain_falls_as_snow(int64_t minimum, int64_t mean, int64_t maximum)
     return 3 * mean - (maximum - minimum) <= 960;
 }
 
-/* Rule 3: the melt of a store that today's snowfall has already joined. The division is of
- * a positive number, so C's division is the floor. */
+/* Rule 3 with M-100's rate: the melt of a store that today's snowfall has already joined. The
+ * division is of a positive number, so C's division is the floor. */
 int64_t plain_melt(int64_t store, int64_t maximum)
 {
     if (maximum <= 320)
         return 0;
-    return smaller(store, 295 * (maximum - 320) / 9);
+    return smaller(store, 12500 * (maximum - 320) / 381);
 }
 
 /* Rule 5: the condition from the five previous days, today not counted. */

@@ -1,4 +1,4 @@
-/* Document 01's ten tests with what M-106 adds to them, one function a test. */
+/* Document 01's ten tests, as document 02 amends them, one function a test. */
 #include "plain_setup.h"
 
 /* The limits. */

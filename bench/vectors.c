@@ -10,8 +10,8 @@
  * In PACK each vector is two lengths of six digits, "IIIIII OOOOOO" and a line feed, then the
  * input's bytes, then the output's.
  *
- * Each case says its own last line beforehand, or its last lines, worked out from document 01 and
- * M-106 apart from the C. A case that ends otherwise stops this program, so the expected outputs rest
+ * Each case says its own last line beforehand, or its last lines, worked out from documents 01 and
+ * 02 apart from the C. A case that ends otherwise stops this program, so the expected outputs rest
  * on two readings of the paper. */
 #include "cases.h"
 #include "text.h"
@@ -164,6 +164,8 @@ int main(int argc, char **argv)
     for (int i = 3; i < argc; i += 2)
         from_file(argv[i], argv[i + 1]);
     random_texts(100);
-    frost_cases(); /* last, so that the numbers before them are what they were */
+    /* As they landed, so that the numbers before them are what they were. */
+    frost_cases();
+    melt_cases();
     return fclose(pack) == 0 && fclose(list) == 0 ? 0 : 2;
 }

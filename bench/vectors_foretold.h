@@ -1,4 +1,4 @@
-/* Vectors of one bare cell whose lines are foretold, for the cases on frost. */
+/* Vectors of one bare cell whose lines are foretold, for the cases on frost and melt. */
 #ifndef VECTORS_FORETOLD_H
 #define VECTORS_FORETOLD_H
 

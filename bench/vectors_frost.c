@@ -50,7 +50,7 @@ static void setpoints(void)
 
 /* ---------------------------------------------------------------- melt about freezing */
 
-/* Snow, dry days at freezing, two frosty ones, then a day whose maximum of 500 melts 5,900 of it and whose mean brings the
+/* Snow, dry days at freezing, two frosty ones, then a day whose maximum of 500 melts 5,905 of it and whose mean brings the
  * index to this one. By then five days were dry: condition I. At curve number 95 so much of the melt is gone. */
 struct melt {
     int index, means[2], gone;
@@ -66,19 +66,19 @@ static void melt_day(int mean, const struct melt *m, const char *reason)
     for (int i = 0; i < 2; i++)
         put_day(5 + i, DORMANT, 0, m->means[i]);
     put("7 %d 0 100 %d 500 0\n", DORMANT, mean);
-    foretell_day(7, 0, 5900, m->gone, 54100);
+    foretell_day(7, 0, 5905, m->gone, 54095);
     snprintf(name, sizeof name, "melt at a mean of %d, frost index %d,%03d", mean, m->index / 1000, m->index % 1000);
     foretold_vector(name, 7, reason);
 }
 
 static void melt_days(void)
 {
-    static const struct melt below[] = {{55999, {-276, -140}, 744}, {56000, {-75, -335}, 2324},
-                                        {82999, {-375, -545}, 2324}, {83000, {-741, -190}, 4003}};
-    static const struct melt at[] = {{55999, {-375, -45}, 744}, {56000, {192, -595}, 2324},
-                                     {82999, {-340, -580}, 2324}, {83000, {-639, -290}, 4003}};
-    static const struct melt above[] = {{55999, {-41, -370}, 744}, {56000, {-340, -80}, 2324},
-                                        {82999, {-140, -775}, 2324}, {83000, {-506, -420}, 4003}};
+    static const struct melt below[] = {{55999, {-276, -140}, 746}, {56000, {-75, -335}, 2327},
+                                        {82999, {-375, -545}, 2327}, {83000, {-741, -190}, 4008}};
+    static const struct melt at[] = {{55999, {-375, -45}, 746}, {56000, {192, -595}, 2327},
+                                     {82999, {-340, -580}, 2327}, {83000, {-639, -290}, 4008}};
+    static const struct melt above[] = {{55999, {-41, -370}, 746}, {56000, {-340, -80}, 2327},
+                                        {82999, {-140, -775}, 2327}, {83000, {-506, -420}, 4008}};
 
     for (int i = 0; i < 4; i++) {
         melt_day(319, &below[i], "a tenth of a degree of frost adds 56, rounded up");

@@ -84,7 +84,7 @@ static void snowfall(void)
     vector("snow or rain", "end 6", "mean 360, span 280 to 400 is snow, 361 rain; a third of the span counts");
     put_slope(120, 270, 250);
     put("1 20 100000 -300 -200 -100 0\n2 21 0 300 310 320 0\n3 22 0 300 310 321 0\n4 23 0 300 400 500 0\n5 24 0 1500 1500 1500 0\n6 25 0 600 700 800 0\n");
-    vector("melt", "end 6", "a maximum of 320 melts 0, 321 melts 32, 500 melts 5,900; at last all the store");
+    vector("melt", "end 6", "a maximum of 320 melts 0, 321 melts 32, 500 melts 5,905; at last all the store");
     put_slope(120, 270, 250);
     put("1 20 50000 200 300 400 0\n2 21 50000 500 600 700 0\n");
     vector("snow and thaw in one day, then rain on snow", "end 2", "snowfall joins the store first, then the melt");

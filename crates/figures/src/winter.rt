@@ -1,10 +1,11 @@
-// Snow and melt of rule 3, by the days of document 003.
+// Snow and melt of rule 3, by the days of document 003 and by the maximum.
 use crate::one_cell::BARE;
 use crate::one_cell::lived;
 use crate::one_cell::remembered;
 use crate::one_cell::weather;
 use crate::printing::ended;
 use crate::printing::shown;
+use records::TenthF;
 use records::wide;
 
 // 40 inches on a day of these temperatures leave snow exactly if they fall as snow: no day melts so much.
@@ -39,6 +40,34 @@ fn winter(date: u64, gross: u64, minimum: i32, mean: i32, maximum: i32, snow: u3
     shown(wide(outflow));
     ended();
     left
+}
+
+// How far a maximum is above freezing, and what a dry day of it melts of deep snow, read off ground that passes all its water on.
+fn melted(maximum: i32) {
+    let cell = lived(
+        BARE,
+        0,
+        1000000,
+        remembered(0, 0),
+        weather(0, 100, 200, maximum, 0),
+    );
+    let outflow = cell.outflow;
+    io::write_all(1, b"melt");
+    shown(TenthF(maximum).above_freezing());
+    shown(wide(outflow));
+    ended();
+}
+
+pub(crate) fn melts() {
+    melted(320);
+    melted(321);
+    melted(325);
+    melted(330);
+    melted(410);
+    melted(500);
+    melted(701);
+    melted(1000);
+    melted(1500);
 }
 
 pub(crate) fn winter_days() {

@@ -1,4 +1,5 @@
--- The starred figures of document 01, as one table: each is computed from the rule that it belongs to.
+-- The starred figures of document 01 and, of melt, those of M-100 in document 02, as one table: each is computed from the rule that it
+-- belongs to.
 use mathlib.Core.Path.{_≡_, refl}
 use mathlib.Core.Bool.{true, false}
 use lib.IntN.{pos}
@@ -29,10 +30,11 @@ pub record Starred : Type 0 where
   -- mean 360, span 280 to 400: snow; mean 361: rain
   pub mean-360 : fallsAsSnow (pos 280) (pos 360) (pos 400) ≡ true
   pub mean-361 : fallsAsSnow (pos 280) (pos 361) (pos 400) ≡ false
-  -- the melt by the maximum
+  -- the melt by the maximum, in millimetres; 1,500 is the highest that a day can have
   pub melt-320 : meltable (pos 320) ≡ 0
   pub melt-321 : meltable (pos 321) ≡ 32
-  pub melt-500 : meltable (pos 500) ≡ 5900
+  pub melt-500 : meltable (pos 500) ≡ 5905
+  pub melt-1500 : meltable (pos 1500) ≡ 38713
   -- F
   pub F-10 : F 10 ≡ 1008332
   pub F-11 : F 11 ≡ 1004394
@@ -77,6 +79,7 @@ starred =
       melt-320 = refl;
       melt-321 = refl;
       melt-500 = refl;
+      melt-1500 = refl;
       F-10 = refl;
       F-11 = refl;
       loss-2000 = refl;

@@ -17,9 +17,9 @@ unfoldable pub aboveFreezing : ℤ → ℕ
 aboveFreezing (pos maximum) = maximum - freezing
 aboveFreezing (negsuc below) = 0
 
--- floor(295 × (maximum - 320) / 9), from 0.059 inch per degree Celsius
+-- floor(12,500 × (maximum - 320) / 381), from 1.5 mm per degree Celsius (M-100)
 unfoldable pub meltable : ℤ → ℕ
-meltable maximum = 295 * aboveFreezing maximum / 9
+meltable maximum = 12500 * aboveFreezing maximum / 381
 
 -- the melt of a store that the day's snowfall has joined
 unfoldable pub melt : ℕ → ℕ → ℕ

@@ -28,10 +28,10 @@ impl Depth {
 
     pub const MOST_LARGEST_RECHARGE: Depth = Depth(100000);
 
-    // The melt rate, from 0.059 inch per degree Celsius: 295 units for each 9 tenths of a degree Fahrenheit above freezing.
-    pub const MELT: Depth = Depth(295);
+    // The melt rate, 1.5 mm per degree Celsius: 12,500 units for each 381 tenths of a degree Fahrenheit above freezing.
+    pub const MELT: Depth = Depth(12500);
 
-    pub const MELT_TENTHS: u64 = 9;
+    pub const MELT_TENTHS: u64 = 381;
 
     pub fn smaller(self, other: Depth) -> Depth
         ensures { λ r. ⌜ r .0 ≡ min (self .0) (other .0) ⌝ }
