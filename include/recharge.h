@@ -1,8 +1,8 @@
 /* recharge.h: a groundwater office's daily soil-water balance, proved, for C.
  *
  * Four calls: the setup check, the fresh state, one day, and the program's whole text. What they do is the law of documents 01
- * and 02 (of 02: M-106, frozen ground); that they do it, for every input, refused or not, is proved (crates/clib, docs/PROMISES.md).
- * "Test" and "rule" numbers are document 01's.
+ * and 02 (of 02: M-106, frozen ground, and M-100, melt in millimetres); that they do it, for every input, refused or not, is
+ * proved (crates/clib, docs/PROMISES.md). "Test" and "rule" numbers are document 01's.
  *
  * Build the library with `rt staticlib clib` (x86-64 Linux) and link target/staticlib/libclib.a. It needs nothing else.
  *
