@@ -64,6 +64,8 @@ uint32_t case_capacity(const struct grid_case *g, uint32_t cell);
 /* The next cell, or CASE_LEAVES or CASE_STAYS. */
 enum { CASE_LEAVES = -1, CASE_STAYS = -2 };
 int32_t case_next(const struct grid_case *g, uint32_t cell);
+/* Does what falls that day fall as snow? */
+bool case_snows(const struct day_case *d);
 /* What a day of this maximum melts of any store (M-100). */
 uint32_t case_melt(int32_t maximum);
 /* The frost index that a day of this mean temperature sets (M-106). */

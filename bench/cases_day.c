@@ -101,6 +101,11 @@ void make_day(const struct grid_case *g, const struct state_case *s, struct day_
     d->potential = chance(50) ? edgy32(0, 20000) : (uint32_t)between(0, 3000);
 }
 
+bool case_snows(const struct day_case *d)
+{
+    return 3 * d->mean - (d->maximum - d->minimum) <= 960;
+}
+
 /* Not as the implementations have it: 1.5 mm are 150,000 hundred-thousandths of a millimetre, 254 of
  * them a unit, and a degree Celsius is 18 tenths of a degree Fahrenheit. */
 uint32_t case_melt(int32_t maximum)
@@ -111,9 +116,8 @@ uint32_t case_melt(int32_t maximum)
 void aim_melt(const struct grid_case *g, struct state_case *s, const struct day_case *d)
 {
     uint32_t cell = (uint32_t)below(g->cells), most = case_melt(d->maximum);
-    bool snows = 3 * d->mean - (d->maximum - d->minimum) <= 960;
 
-    if (most > 0 && !(snows && d->gross > 0) && !case_is_water(g, cell))
+    if (most > 0 && !(case_snows(d) && d->gross > 0) && !case_is_water(g, cell))
         s->snow[cell] = most - 1 + (uint32_t)below(3);
 }
 

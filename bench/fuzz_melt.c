@@ -14,7 +14,7 @@ static struct {
 
 void check_melt(const struct grid_case *g, const struct day_case *d)
 {
-    const bool snows = 3 * d->mean - (d->maximum - d->minimum) <= 960;
+    const bool snows = case_snows(d);
     const uint32_t most = case_melt(d->maximum);
     const uint32_t rounded = d->maximum > 320 ? 590 * (uint32_t)(d->maximum - 320) / 18 : 0;
 
