@@ -23,10 +23,10 @@ FILENAME !~ /year.txt$/ && FNR == 1 { run++ } # 1 never frozen, 2 frozen
 $1 == "day" { serial = $2; index_of[serial] = $3; for (k = 1; k <= 3; k++) total[run, serial, k] = $(6 + k) }
 $1 == "cell" && $2 == 0 && run == 2 { lies[serial] = $9 }
 $1 == "cell" && serial == shown { runoff[run, $2] = $4; recharged[run, $2] = $6; rejected[run, $2] = $7 }
-function by_rain(s,    sum, k, wet) { # rule 5
+function by_rain(s,    sum, k, growing) { # rule 5
     for (k = s - 5; k < s; k++) sum += gross[k]
-    wet = day[s] >= first && day[s] <= last
-    return sum < (wet ? 14000 : 5000) ? 1 : sum > (wet ? 21000 : 11000) ? 3 : 2
+    growing = day[s] >= first && day[s] <= last
+    return sum < (growing ? 14000 : 5000) ? 1 : sum > (growing ? 21000 : 11000) ? 3 : 2
 }
 function counts_as(s,    c) { # M-106
     c = by_rain(s)
@@ -36,9 +36,9 @@ function number(n, condition) {
     if (condition == 1) return int(100000 * n / (228100 - 1281 * n) + 0.5)
     return condition == 3 ? int(100000 * n / (42700 + 573 * n) + 0.5) : n
 }
-BEGIN { split("I II III", condition, " "); split("A B C D", letter, " ") }'
+BEGIN { cells = 0; split("I II III", condition, " "); split("A B C D", letter, " ") }'
 
-# The days of March on which the two runs differ, and all days together; the snow is that of cell 0.
+# The days of March on which the two runs differ, and all days together; the snow is that of cell 0, which no cover holds back in March.
 awk -v shown=0 "$read_year"'
 function differ(s,    k, n) { for (k = 1; k <= 3; k++) n += total[1, s, k] != total[2, s, k]; return n }
 function pairs(s,    k, row) { for (k = 1; k <= 3; k++) row = row " " total[1, s, k] " | " total[2, s, k] " |"; return row }
