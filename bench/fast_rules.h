@@ -35,7 +35,7 @@ struct plot {
     uint32_t root, most_snow; /* limits of the stores: root x available water, and this */
     uint32_t largest;         /* daily recharge */
     uint32_t c;               /* curve number */
-    uint32_t none_to;         /* no outflow up to this w: a > 0 exactly when w is above it */
+    uint32_t none_to;         /* no runoff up to this w: a > 0 exactly when w is above it */
     uint32_t b0;              /* b = c w + b0 */
     uint32_t k;               /* K = 100,000(100 - c) */
     uint64_t kk;              /* K squared */

@@ -43,11 +43,11 @@ static void rules(void)
         figure("rule 5", curve[i].what, plain_curve_number(curve[i].n, curve[i].condition),
                curve[i].wanted);
 
-    figure("rule 6", "outflow of c 100, w 1,234", plain_outflow(100, 1234), 1234);
-    figure("rule 6", "outflow of c 80, w 50,000", plain_outflow(80, 50000), 28928);
-    figure("rule 6", "outflow of c 75, w 6,667", plain_outflow(75, 6667), 0);
+    figure("rule 6", "outflow of c 100, w 1,234", plain_runoff(100, 1234), 1234);
+    figure("rule 6", "outflow of c 80, w 50,000", plain_runoff(80, 50000), 28928);
+    figure("rule 6", "outflow of c 75, w 6,667", plain_runoff(75, 6667), 0);
     figure("rule 6", "  its a", 75 * (6667 + 20000) - 2000000, 25);
-    figure("rule 6", "outflow of c 57, w 30,000", plain_outflow(57, 30000), 2461);
+    figure("rule 6", "outflow of c 57, w 30,000", plain_runoff(57, 30000), 2461);
 
     figure("rule 5", "growing sum 13,999 (0 is I)", plain_antecedent(13999, true), CONDITION_I);
     figure("rule 5", "growing sum 14,000 (1 is II)", plain_antecedent(14000, true), CONDITION_II);
@@ -129,7 +129,7 @@ static void days(const struct implementation *x)
     figure(x->name, "condition III of 75 flows as 88", rain_outflow(x, 75, 30000, most),
            rain_outflow(x, 88, 14000, most));
     figure(x->name, "condition I of 30 flows as 16", rain_outflow(x, 30, 0, most),
-           plain_outflow(16, most));
+           plain_runoff(16, most));
     figure(x->name, "condition III of 30 flows as 50", rain_outflow(x, 30, 30000, most),
            rain_outflow(x, 50, 14000, most));
     figure(x->name, "condition I of 100 flows as 100", rain_outflow(x, 100, 0, most), most);
@@ -143,11 +143,11 @@ static void days(const struct implementation *x)
 
     figure(x->name, "growing sum 13,999 is I", rain_outflow(x, 75, 13999, 30000), 2461);
     figure(x->name, "growing sum 14,000 is II", rain_outflow(x, 75, 14000, 30000),
-           plain_outflow(75, 30000));
+           plain_runoff(75, 30000));
     figure(x->name, "growing sum 21,000 is II", rain_outflow(x, 75, 21000, 30000),
-           plain_outflow(75, 30000));
+           plain_runoff(75, 30000));
     figure(x->name, "growing sum 21,001 is III", rain_outflow(x, 75, 21001, 30000),
-           plain_outflow(88, 30000));
+           plain_runoff(88, 30000));
 
     figure(x->name, "mean 360, span 280 to 400: snow", snows(x, 280, 360, 400), 1);
     figure(x->name, "mean 361, span 280 to 400: rain", snows(x, 280, 361, 400), 0);

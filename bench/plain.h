@@ -17,7 +17,7 @@ int64_t plain_frost(int64_t index, int64_t mean);                               
 enum plain_condition plain_counts_as(enum plain_condition antecedent, int64_t index,
                                      int64_t first_setpoint, int64_t second_setpoint); /* M-106 */
 int64_t plain_curve_number(int64_t table_number, enum plain_condition condition); /* rule 5 */
-int64_t plain_outflow(int64_t c, int64_t w);                                      /* rule 6 */
+int64_t plain_runoff(int64_t c, int64_t w);                                       /* rule 6 */
 int64_t plain_retention(int64_t k);                                               /* F of rule 8 */
 int64_t plain_loss(int64_t soil, int64_t capacity, int64_t d);                    /* rule 8 */
 

@@ -12,7 +12,7 @@ use Rattle.theory.proofs.SumLaws.{given-le, given-most}
 use Rattle.paper.specs.Interception.{intercepted, net}
 use Rattle.paper.specs.Snow.{melt}
 use Rattle.paper.specs.CurveNumber.{curveNumber}
-use Rattle.paper.specs.Outflow.{outflow}
+use Rattle.paper.specs.Runoff.{runoff}
 use Rattle.paper.specs.Setup.{Cell}
 use Rattle.paper.specs.State.{mostSoilOf}
 use Rattle.paper.specs.CellDay.{
@@ -31,7 +31,7 @@ use Rattle.paper.specs.CellDay.{
   landDay,
   cellDay,
 }
-use Rattle.paper.proofs.OutflowLaws.{outflow-rises, outflow-most, infiltration-rises}
+use Rattle.paper.proofs.RunoffLaws.{runoff-rises, runoff-most, infiltration-rises}
 use Rattle.paper.proofs.SoilLaws as SoilLaws
 use Rattle.paper.proofs.SoilLaws.{soil-account, soil-rises, soil-limit, rejected-most}
 
@@ -67,8 +67,8 @@ module _ (c : Cell) (t : Today) where
   unfolding ownOf
   own-land snow e = cond-false (c .open?) e _ _
 
-  -- what holds of passing all, nothing and rule 6's outflow holds of the cell's outflow
-  passed-by : (P : (ℕ → ℕ) → Type 0) → P (λ w. w) → P (λ w. 0) → P (outflow (curveNumber (t .condition) (c .N))) → P (passedOf c t)
+  -- what holds of passing all, nothing and rule 6's runoff holds of the cell's outflow
+  passed-by : (P : (ℕ → ℕ) → Type 0) → P (λ w. w) → P (λ w. 0) → P (runoff (curveNumber (t .condition) (c .N))) → P (passedOf c t)
   unfolding passedOf
   passed-by P whole none some =
       byCases (c .open?) (λ e. subst⁻¹ P (fun-ext (λ w. cond-true (c .open?) e _ _)) whole)
@@ -130,11 +130,11 @@ module _ (c : Cell) (t : Today) where
   module _ (small : curveNumber (t .condition) (c .N) ≤ 100) where
     pub passed-most : (w : ℕ) → passedOf c t w ≤ w
     passed-most =
-        passed-by (λ out. (w : ℕ) → out w ≤ w) (λ w. le-refl w) (λ w. zero-le) (λ w. outflow-most _ w small)
+        passed-by (λ out. (w : ℕ) → out w ≤ w) (λ w. le-refl w) (λ w. zero-le) (λ w. runoff-most _ w small)
 
     pub passed-rises : (w v : ℕ) → w ≤ v → passedOf c t w ≤ passedOf c t v
     passed-rises =
-        passed-by (λ out. (w v : ℕ) → w ≤ v → out w ≤ out v) (λ w v h. h) (λ w v h. zero-le) (λ w v h. outflow-rises small h)
+        passed-by (λ out. (w v : ℕ) → w ≤ v → out w ≤ out v) (λ w v h. h) (λ w v h. zero-le) (λ w v h. runoff-rises small h)
 
     kept-rises : (w v : ℕ) → w ≤ v → w - passedOf c t w ≤ v - passedOf c t v
     kept-rises =

@@ -19,7 +19,6 @@ use Rattle.paper.specs.Interception.{intercepted, net}
 use Rattle.paper.specs.Snow.{fallsAsSnow, aboveFreezing, meltable}
 use Rattle.paper.specs.CurveNumber.{I, II, III, class, conditionOf}
 use Rattle.paper.specs.Frost.{floor, orZero, frostAfter, notDry, counted}
-use Rattle.paper.specs.Outflow.{outflow}
 use Rattle.paper.specs.CellDay.{today, figureOf, netOf, storeOf}
 use Rattle.paper.specs.Refusals.{
   numberOf,

@@ -1,5 +1,5 @@
 pub mod Divisions
-pub mod OutflowLaws
+pub mod RunoffLaws
 pub mod RetentionLaws
 pub mod SoilLaws
 pub mod FlowLaws

@@ -5,7 +5,7 @@ use mathlib.Core.Bool.{true, false}
 use lib.IntN.{pos}
 use Rattle.paper.specs.Snow.{fallsAsSnow, aboveFreezing, meltable}
 use Rattle.paper.specs.CurveNumber.{I, II, III, class, conditionOf, nearest, curveNumber}
-use Rattle.paper.specs.Outflow.{excess, spread, outflow}
+use Rattle.paper.specs.Runoff.{excess, spread, runoff}
 use Rattle.paper.specs.Retention.{F, between, L, loss}
 
 pub record Starred : Type 0 where
@@ -16,12 +16,12 @@ pub record Starred : Type 0 where
   pub 30-wet : curveNumber III 30 ≡ 50
   pub 100-dry : curveNumber I 100 ≡ 100
   pub 100-wet : curveNumber III 100 ≡ 100
-  -- outflow for c and w
-  pub 100-of-1234 : outflow 100 1234 ≡ 1234
-  pub 80-of-50000 : outflow 80 50000 ≡ 28928
-  pub 75-of-6667 : outflow 75 6667 ≡ 0
+  -- runoff for c and w
+  pub 100-of-1234 : runoff 100 1234 ≡ 1234
+  pub 80-of-50000 : runoff 80 50000 ≡ 28928
+  pub 75-of-6667 : runoff 75 6667 ≡ 0
   pub 75-of-6667-a : excess 75 6667 ≡ 25
-  pub 57-of-30000 : outflow 57 30000 ≡ 2461
+  pub 57-of-30000 : runoff 57 30000 ≡ 2461
   -- the condition by the growing season's five-day sum
   pub sum-14000 : conditionOf true 14000 ≡ II
   pub sum-13999 : conditionOf true 13999 ≡ I
@@ -52,7 +52,7 @@ unfolding
     curveNumber
     excess
     spread
-    outflow
+    runoff
     F
     between
     L

@@ -8,7 +8,7 @@ use Rattle.paper.specs.Interception.{intercepted, net}
 use Rattle.paper.specs.Snow.{fallsAsSnow, meltable, melt}
 use Rattle.paper.specs.CurveNumber.{Condition, conditionOf, curveNumber}
 use Rattle.paper.specs.Frost.{frostAfter, counted}
-use Rattle.paper.specs.Outflow.{outflow}
+use Rattle.paper.specs.Runoff.{runoff}
 use Rattle.paper.specs.Soil.{SoilDay, soilDay}
 
 -- what the rules read of the day: alike for every cell
@@ -62,7 +62,7 @@ ownOf c t snow = cond (c .open?) (t .gross) (rainOf c t + meltOf c t snow)
 
 -- rules 1, 5 and 6: the outflow for water w
 unfoldable pub passedOf : Cell → Today → ℕ → ℕ
-passedOf c t w = cond (c .open?) w (cond (c .closed?) 0 (outflow (curveNumber (t .condition) (c .N)) w))
+passedOf c t w = cond (c .open?) w (cond (c .closed?) 0 (runoff (curveNumber (t .condition) (c .N)) w))
 
 -- the figures of one cell's day
 pub record Figures : Type 0 where

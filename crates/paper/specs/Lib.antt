@@ -8,7 +8,7 @@ pub mod Interception
 pub mod Snow
 pub mod CurveNumber
 pub mod Frost
-pub mod Outflow
+pub mod Runoff
 pub mod Retention
 pub mod Soil
 pub mod CellDay

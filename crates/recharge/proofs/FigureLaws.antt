@@ -18,7 +18,7 @@ use Rattle.paper.specs.Setup.{Cell}
 use Rattle.paper.specs.State.{mostSoilOf, mostSnowOf}
 use Rattle.paper.specs.Soil.{SoilDay, soilDay}
 use Rattle.paper.specs.CellDay.{Today, Figures, interceptedOf, netOf, rainOf, storeOf, meltOf, ownOf, passedOf, groundOf, openDay, landDay, cellDay}
-use Rattle.paper.proofs.OutflowLaws.{outflow-most}
+use Rattle.paper.proofs.RunoffLaws.{runoff-most}
 use Rattle.paper.proofs.SoilLaws.{soil-account}
 use Rattle.covers.specs.Slots.{mostCapacity}
 use Rattle.recharge.specs.Depths.{gatheredLimit}
@@ -29,7 +29,7 @@ pub passed-most : (p : Plot) (way w : ℕ) → p .curve ≤ mostCurveNumber → 
 unfolding passedBy
 passed-most p way w h =
     byCases (eqb way openWater) (λ e. rw e (le-refl w))
-    (λ e. byCases (eqb way closedWay) (λ f. rw (e, f) zero-le) (λ f. rw (e, f) (outflow-most (p .curve) w h)))
+    (λ e. byCases (eqb way closedWay) (λ f. rw (e, f) zero-le) (λ f. rw (e, f) (runoff-most (p .curve) w h)))
 
 pub own-most : (t : Today) (p : Plot) (snow : ℕ) → ownBy t p snow ≤ p .rain + t .meltable
 unfolding ownBy melt

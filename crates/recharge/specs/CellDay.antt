@@ -7,7 +7,7 @@ use Prim.Native.Nat.{ℕ, _+_, _-_, _≤_, _<_}
 use lib.Dec.{eqb}
 use Rattle.paper.specs.Limits.{mostGross, mostPotential, mostSnow, mostCurveNumber}
 use Rattle.paper.specs.Snow.{melt}
-use Rattle.paper.specs.Outflow.{outflow}
+use Rattle.paper.specs.Runoff.{runoff}
 use Rattle.paper.specs.Soil.{SoilDay, soilDay}
 use Rattle.paper.specs.CellDay.{Today, Figures}
 use Rattle.covers.specs.Slots.{mostCapacity}
@@ -44,7 +44,7 @@ ownBy t p snow = p .rain + melt (snow + p .snowfall) (t .meltable)
 
 -- all of its water from open water, none from a closed depression, else what its curve number lets go
 unfoldable pub passedBy : Plot → ℕ → ℕ → ℕ
-passedBy p way w = cond (eqb way openWater) w (cond (eqb way closedWay) 0 (outflow (p .curve) w))
+passedBy p way w = cond (eqb way openWater) w (cond (eqb way closedWay) 0 (runoff (p .curve) w))
 
 unfoldable pub groundBy : Today → Plot → ℕ → ℕ → ℕ → SoilDay
 groundBy t p way soil w = soilDay (p .capacity) (p .largest) soil (w - passedBy p way w) (t .potential)

@@ -7,7 +7,7 @@ ghost use Rattle.weather.specs.Today.{todayAs};
 ghost use Rattle.recharge.specs.Depths.{waterLimit};
 ghost use Rattle.covers.specs.Grounds.{plotAs};
 ghost use Rattle.recharge.specs.CellDay.{figuresAs, passedBy, figuresBy, CellReady};
-use crate::outflow::outflow as runoff;
+use crate::runoff::runoff;
 use crate::soil::soil_day;
 use crate::ways::Way;
 use covers::Plot;

@@ -3,7 +3,7 @@ mod calls;
 mod cell_day;
 mod downhill;
 mod loss;
-mod outflow;
+mod runoff;
 mod soil;
 mod totals;
 mod ways;

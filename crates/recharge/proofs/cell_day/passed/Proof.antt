@@ -15,7 +15,7 @@ returns-2 c = simp (ne-eqb _ _ (c .before .before .before .if1 .left), eq-eqb _ 
 
 returns-3 : tie.Need-returns-3
 unfolding passedBy
-returns-3 c = simp (ne-eqb _ _ (c .before .before .before .before .if1 .left), ne-eqb _ _ (c .before .if2 .left)) (c .outflow .ensures)
+returns-3 c = simp (ne-eqb _ _ (c .before .before .before .before .if1 .left), ne-eqb _ _ (c .before .if2 .left)) (c .runoff .ensures)
 
 pub passed-spec : {M : Type 1} → statement M
 passed-spec =

@@ -1,4 +1,4 @@
--- Rule 6, outflow (SCS, abstraction 0.2). Where the paper's a is not above 0, so is `excess`, and the outflow is 0.
+-- Rule 6, runoff by the curve number (SCS, abstraction 0.2). Where the paper's a is not above 0, so is `excess`, and the runoff is 0.
 use Prim.Native.Nat.{ℕ, _+_, _-_, _*_, _/_}
 
 -- a = c(w + 20,000) - 2,000,000
@@ -10,5 +10,5 @@ unfoldable pub spread : ℕ → ℕ → ℕ
 spread c w = c * w + 8000000 - 80000 * c
 
 -- floor(a² / (c × b))
-unfoldable pub outflow : ℕ → ℕ → ℕ
-outflow c w = excess c w * excess c w / (c * spread c w)
+unfoldable pub runoff : ℕ → ℕ → ℕ
+runoff c w = excess c w * excess c w / (c * spread c w)

@@ -1,13 +1,13 @@
--- `outflow::outflow` meets its contract: the paper's law `outflow-64` is the code's formula, and with c ≤ 100 and w below the limit nothing in it passes 64 bits.
+-- `runoff::runoff` meets its contract: the paper's law `runoff-64` is the code's formula, and with c ≤ 100 and w below the limit nothing in it passes 64 bits.
 use mathlib.Core.Path.{sym}
 use Prim.Native.Nat.{ℕ, zero, suc, _-_, _*_, _/_, _≤_, _<_, zero-le, suc-le-suc}
 use native.Mathlib.Nat.{le-trans, le-of-eq, not-suc-le-zero, mul-le-mul, div-le-self, zero-mul}
 use native.Mathlib.Omega.{arith}
 use borrow.Author.Needs.{needs}
-use Rattle.paper.specs.Outflow.{spread}
-use Rattle.paper.proofs.OutflowLaws.{outflow-none, outflow-64, outflow-64-room}
-use Rattle.recharge.proofs.outflow.outflow.Statement.{statement}
-use Rattle.recharge.proofs.outflow.outflow.Tie as tie
+use Rattle.paper.specs.Runoff.{spread}
+use Rattle.paper.proofs.RunoffLaws.{runoff-none, runoff-64, runoff-64-room}
+use Rattle.recharge.proofs.runoff.runoff.Statement.{statement}
+use Rattle.recharge.proofs.runoff.runoff.Tie as tie
 
 square-most : (c : ℕ) → 100000 * (100 - c) * (100000 * (100 - c)) ≤ 100000000000000
 square-most c = mul-le-mul {n₂ = 10000000} {m₂ = 10000000} (omega arith) (omega arith)
@@ -27,7 +27,7 @@ mul-if1 : tie.Need-mul-if1
 mul-if1 c = omega (arith, mul-le-mul (c .pre .0) (c .pre .1))
 
 returns : tie.Need-returns
-returns c = sym (outflow-none _ _ (c .if1 .taken))
+returns c = sym (runoff-none _ _ (c .if1 .taken))
 
 sub-k : tie.Need-sub-k
 sub-k c = search needs
@@ -64,17 +64,17 @@ mul-t11 c = search needs
 
 sub-t12 : tie.Need-sub-t12
 unfolding spread
-sub-t12 c = outflow-64-room (c .before .args .c .0) (c .before .args .w .0) (c .before .pre .0) (c .if1 .left)
+sub-t12 c = runoff-64-room (c .before .args .c .0) (c .before .args .w .0) (c .before .pre .0) (c .if1 .left)
 
 div-t13 : tie.Need-div-t13
 div-t13 c = omega (arith, above-none _ _ (c .if1 .left))
 
 returns-2 : tie.Need-returns-2
 unfolding spread
-returns-2 c = sym (outflow-64 (c .before .args .c .0) (c .before .args .w .0) (above-none _ _ (c .if1 .left)) (c .before .pre .0) (c .if1 .left))
+returns-2 c = sym (runoff-64 (c .before .args .c .0) (c .before .args .w .0) (above-none _ _ (c .if1 .left)) (c .before .pre .0) (c .if1 .left))
 
-pub outflow-spec : {M : Type 1} → statement M
-outflow-spec =
+pub runoff-spec : {M : Type 1} → statement M
+runoff-spec =
     tie.close
     (tie.spec
     add-if1
