@@ -128,7 +128,7 @@ uint64_t fast_day(BALANCE_SETUP_PARAMETERS, BALANCE_STATE_PARAMETERS,
 
     /* Rules 1 to 8. The water of a whole grid, at most 4,096 x (400,000 + 38,713), fits 32
      * bits, so every inflow does. */
-    uint64_t all_intercepted = 0, all_evapotranspired = 0, all_recharged = 0, all_rejected = 0;
+    uint64_t all_intercepted = 0, all_evapotranspired = 0, all_recharged = 0;
     uint64_t gone = 0, stored = 0;
     memset(inflow, 0, cells * sizeof inflow[0]);
     memset(inflow + OVER_EDGE, 0, (TARGETS - OVER_EDGE) * sizeof inflow[0]);
@@ -151,10 +151,9 @@ uint64_t fast_day(BALANCE_SETUP_PARAMETERS, BALANCE_STATE_PARAMETERS,
         const uint32_t store = snow[cell] + p->snowfall;
         const uint32_t melt = store < most_melt ? store : most_melt;
         const uint32_t w = p->rain + melt + inflow[cell];
-        const uint32_t out = next == CLOSED ? 0 : runoff(p, w);
-        const uint32_t n = w - out;
+        const uint32_t off = next == CLOSED ? 0 : runoff(p, w);
+        const uint32_t n = w - off;
         uint32_t kept = soil[cell], evaporated, recharge = 0, reject = 0;
-        inflow[next] += out;
 
         if (n >= potential) {
             evaporated = potential;
@@ -171,17 +170,20 @@ uint64_t fast_day(BALANCE_SETUP_PARAMETERS, BALANCE_STATE_PARAMETERS,
             kept -= loss;
         }
 
+        /* What is rejected runs on with the runoff. Past the cells stands what has gone over the
+         * edge and, of closed depressions, what they have rejected: they have no runoff. */
+        inflow[next] += off + reject;
+
         soil[cell] = kept;
         snow[cell] = store - melt;
         intercepted[cell] = p->intercepted;
-        outflow[cell] = out;
+        outflow[cell] = next == CLOSED ? 0 : off + reject;
         evapotranspired[cell] = evaporated;
         recharged[cell] = recharge;
         rejected[cell] = reject;
         all_intercepted += p->intercepted;
         all_evapotranspired += evaporated;
         all_recharged += recharge;
-        all_rejected += reject;
         stored += (uint64_t)kept + (store - melt);
     }
 
@@ -189,7 +191,7 @@ uint64_t fast_day(BALANCE_SETUP_PARAMETERS, BALANCE_STATE_PARAMETERS,
     totals[1] = all_intercepted;
     totals[2] = all_evapotranspired;
     totals[3] = all_recharged;
-    totals[4] = all_rejected;
+    totals[4] = inflow[CLOSED];
     totals[5] = gone + inflow[OVER_EDGE];
     totals[6] = stored;
     memmove(memory, memory + 1, (BALANCE_MEMORY - 1) * sizeof memory[0]);

@@ -43,11 +43,11 @@ static void rules(void)
         figure("rule 5", curve[i].what, plain_curve_number(curve[i].n, curve[i].condition),
                curve[i].wanted);
 
-    figure("rule 6", "outflow of c 100, w 1,234", plain_runoff(100, 1234), 1234);
-    figure("rule 6", "outflow of c 80, w 50,000", plain_runoff(80, 50000), 28928);
-    figure("rule 6", "outflow of c 75, w 6,667", plain_runoff(75, 6667), 0);
+    figure("rule 6", "runoff of c 100, w 1,234", plain_runoff(100, 1234), 1234);
+    figure("rule 6", "runoff of c 80, w 50,000", plain_runoff(80, 50000), 28928);
+    figure("rule 6", "runoff of c 75, w 6,667", plain_runoff(75, 6667), 0);
     figure("rule 6", "  its a", 75 * (6667 + 20000) - 2000000, 25);
-    figure("rule 6", "outflow of c 57, w 30,000", plain_runoff(57, 30000), 2461);
+    figure("rule 6", "runoff of c 57, w 30,000", plain_runoff(57, 30000), 2461);
 
     figure("rule 5", "growing sum 13,999 (0 is I)", plain_antecedent(13999, true), CONDITION_I);
     figure("rule 5", "growing sum 14,000 (1 is II)", plain_antecedent(14000, true), CONDITION_II);
@@ -91,12 +91,13 @@ uint64_t run(const struct implementation *x, struct one_cell *c)
                   c->maximum, c->potential);
 }
 
-/* The outflow of so much rain on a warm growing day. 14,000 to 21,000 is condition II. */
-static uint32_t rain_outflow(const struct implementation *x, uint32_t curve, uint32_t sum,
-                             uint32_t rain)
+/* The runoff of so much rain on a warm growing day: the outflow of a cell whose soil has room for
+ * all that sinks in, so that nothing is rejected. 14,000 to 21,000 is condition II. */
+static uint32_t rain_runoff(const struct implementation *x, uint32_t curve, uint32_t sum,
+                            uint32_t rain)
 {
-    struct one_cell c = {.curve = curve, .five_day_sum = sum, .gross = rain,
-                         .minimum = 600, .mean = 700, .maximum = 800};
+    struct one_cell c = {.curve = curve, .root = 1000, .water = 600, .five_day_sum = sum,
+                         .gross = rain, .minimum = 600, .mean = 700, .maximum = 800};
 
     return run(x, &c) == 0 ? c.outflow : UINT32_MAX;
 }
@@ -124,29 +125,29 @@ static void days(const struct implementation *x)
 {
     const uint32_t most = 400000; /* tells all curve numbers apart */
 
-    figure(x->name, "condition I of 75 flows as 57", rain_outflow(x, 75, 0, most),
-           rain_outflow(x, 57, 14000, most));
-    figure(x->name, "condition III of 75 flows as 88", rain_outflow(x, 75, 30000, most),
-           rain_outflow(x, 88, 14000, most));
-    figure(x->name, "condition I of 30 flows as 16", rain_outflow(x, 30, 0, most),
+    figure(x->name, "condition I of 75 flows as 57", rain_runoff(x, 75, 0, most),
+           rain_runoff(x, 57, 14000, most));
+    figure(x->name, "condition III of 75 flows as 88", rain_runoff(x, 75, 30000, most),
+           rain_runoff(x, 88, 14000, most));
+    figure(x->name, "condition I of 30 flows as 16", rain_runoff(x, 30, 0, most),
            plain_runoff(16, most));
-    figure(x->name, "condition III of 30 flows as 50", rain_outflow(x, 30, 30000, most),
-           rain_outflow(x, 50, 14000, most));
-    figure(x->name, "condition I of 100 flows as 100", rain_outflow(x, 100, 0, most), most);
-    figure(x->name, "condition III of 100 flows as 100", rain_outflow(x, 100, 30000, most), most);
+    figure(x->name, "condition III of 30 flows as 50", rain_runoff(x, 30, 30000, most),
+           rain_runoff(x, 50, 14000, most));
+    figure(x->name, "condition I of 100 flows as 100", rain_runoff(x, 100, 0, most), most);
+    figure(x->name, "condition III of 100 flows as 100", rain_runoff(x, 100, 30000, most), most);
 
-    figure(x->name, "outflow of c 100, w 1,234", rain_outflow(x, 100, 14000, 1234), 1234);
-    figure(x->name, "outflow of c 80, w 50,000", rain_outflow(x, 80, 14000, 50000), 28928);
-    figure(x->name, "outflow of c 75, w 6,667", rain_outflow(x, 75, 14000, 6667), 0);
-    figure(x->name, "outflow of c 57, w 30,000", rain_outflow(x, 57, 14000, 30000), 2461);
-    figure(x->name, "the same from 75 in condition I", rain_outflow(x, 75, 0, 30000), 2461);
+    figure(x->name, "runoff of c 100, w 1,234", rain_runoff(x, 100, 14000, 1234), 1234);
+    figure(x->name, "runoff of c 80, w 50,000", rain_runoff(x, 80, 14000, 50000), 28928);
+    figure(x->name, "runoff of c 75, w 6,667", rain_runoff(x, 75, 14000, 6667), 0);
+    figure(x->name, "runoff of c 57, w 30,000", rain_runoff(x, 57, 14000, 30000), 2461);
+    figure(x->name, "the same from 75 in condition I", rain_runoff(x, 75, 0, 30000), 2461);
 
-    figure(x->name, "growing sum 13,999 is I", rain_outflow(x, 75, 13999, 30000), 2461);
-    figure(x->name, "growing sum 14,000 is II", rain_outflow(x, 75, 14000, 30000),
+    figure(x->name, "growing sum 13,999 is I", rain_runoff(x, 75, 13999, 30000), 2461);
+    figure(x->name, "growing sum 14,000 is II", rain_runoff(x, 75, 14000, 30000),
            plain_runoff(75, 30000));
-    figure(x->name, "growing sum 21,000 is II", rain_outflow(x, 75, 21000, 30000),
+    figure(x->name, "growing sum 21,000 is II", rain_runoff(x, 75, 21000, 30000),
            plain_runoff(75, 30000));
-    figure(x->name, "growing sum 21,001 is III", rain_outflow(x, 75, 21001, 30000),
+    figure(x->name, "growing sum 21,001 is III", rain_runoff(x, 75, 21001, 30000),
            plain_runoff(88, 30000));
 
     figure(x->name, "mean 360, span 280 to 400: snow", snows(x, 280, 360, 400), 1);

@@ -158,6 +158,7 @@ int main(int argc, char **argv)
         reached_often("text", tally.text, 11, text_cases);
         for (int i = 0; i < CASE_FIXED; i++)
             enough("a slice with a length of its own had another", tally.fixed[i], cases);
+        rejected_often(cases);
         melt_often(cases);
         frost_often(cases);
         enough("a pair of runs had a day in frost", tally.frosty_pair_days, cases);

@@ -11,7 +11,7 @@ enum { MOST_IMPLEMENTATIONS = 8, REFUSALS = 12, GUARD = 1 };
 
 struct tally {
     uint64_t check[REFUSALS], fresh[REFUSALS], day[REFUSALS], text[REFUSALS];
-    uint64_t cell_days, pairs, pair_days, frosty_pair_days, wetter_figures, text_days, winters, winter_hits;
+    uint64_t cell_days, pairs, pair_days, frosty_pair_days, wetter_figures, more_runs_on, text_days, winters, winter_hits;
     uint32_t most_outflow;
     uint64_t foretold;
     uint64_t fixed[CASE_FIXED]; /* calls lent memory, last serial, frost index or totals of another length */
@@ -70,6 +70,14 @@ void check_account(const struct grid_case *g, const struct day_case *d);
 
 /* Takes the state over that came back in worlds[0]. */
 void take_state(const struct grid_case *g, struct state_case *s);
+
+/* ---------------------------------------------------------------- rejected recharge: fuzz_rejected.c */
+
+/* Holds the outflow and the rejected recharge of each cell of an accepted day, in worlds[0], to M-104, and counts where that went. */
+void check_rejected(const struct grid_case *g, const struct day_case *d, const uint64_t *inflow);
+
+void report_rejected(void);
+void rejected_often(uint64_t cases);
 
 /* ---------------------------------------------------------------- melt: fuzz_melt.c */
 

@@ -8,7 +8,7 @@ void check_account(const struct grid_case *g, const struct day_case *d)
 {
     static uint64_t inflow[CASE_ROOM];
     const struct world *w = &worlds[0];
-    uint64_t sum[CASE_SLICES] = {0}, gone = 0, stored_before = 0;
+    uint64_t sum[CASE_SLICES] = {0}, rejected = 0, gone = 0, stored_before = 0;
 
     memset(inflow, 0, g->cells * sizeof inflow[0]);
     for (uint32_t i = 0; i < g->cells; i++) {
@@ -17,8 +17,6 @@ void check_account(const struct grid_case *g, const struct day_case *d)
             inflow[next] += w->slice[OUTFLOW][i];
         else if (next == CASE_LEAVES || case_is_water(g, i))
             gone += w->slice[OUTFLOW][i];
-        else if (w->slice[OUTFLOW][i] != 0)
-            fail("closed depression %" PRIu32 " has an outflow", i);
         if (w->slice[OUTFLOW][i] > tally.most_outflow)
             tally.most_outflow = w->slice[OUTFLOW][i];
     }
@@ -29,6 +27,11 @@ void check_account(const struct grid_case *g, const struct day_case *d)
             sum[k] += w->slice[k][i];
             has += w->slice[k][i];
         }
+        /* what is rejected elsewhere is in the outflow */
+        if (case_next(g, i) == CASE_STAYS)
+            rejected += w->slice[REJECTED][i];
+        else
+            has -= w->slice[REJECTED][i];
         stored_before += had;
         if (had + d->gross + inflow[i] != has)
             fail("the account of cell %" PRIu32 " is off: %" PRIu64 " came, %" PRIu64 " is there",
@@ -42,7 +45,7 @@ void check_account(const struct grid_case *g, const struct day_case *d)
     }
     const uint64_t totals[BALANCE_TOTALS] = {
         (uint64_t)g->cells * d->gross, sum[INTERCEPTED], sum[EVAPOTRANSPIRED], sum[RECHARGED],
-        sum[REJECTED], gone, sum[SOIL] + sum[SNOW]};
+        rejected, gone, sum[SOIL] + sum[SNOW]};
     for (int i = 0; i < BALANCE_TOTALS; i++)
         if (w->totals[i] != totals[i])
             fail("total %d is %" PRIu64 ", the cells' sum %" PRIu64, i, w->totals[i], totals[i]);
@@ -54,6 +57,7 @@ void check_account(const struct grid_case *g, const struct day_case *d)
             fail("memory %d is not the next", i);
     if (w->last_serial[0] != d->serial)
         fail("the last serial is not the day's");
+    check_rejected(g, d, inflow);
     check_melt(g, d);
     check_frost(g, d);
     tally.cell_days += g->cells;

@@ -69,8 +69,9 @@ void report(uint64_t cases, uint64_t text_cases, uint64_t seed, double case_time
     printf("cells of accepted days held against the account: %" PRIu64 "\n", tally.cell_days);
     printf("largest outflow seen: %" PRIu32 "\n", tally.most_outflow);
     printf("pairs of runs: %" PRIu64 ", of %" PRIu64 " days, %" PRIu64 " of them at or above the first setpoint, with %" PRIu64
-           " larger figures\n",
-           tally.pairs, tally.pair_days, tally.frosty_pair_days, tally.wetter_figures);
+           " larger figures, %" PRIu64 " of them rejected recharge that runs on\n",
+           tally.pairs, tally.pair_days, tally.frosty_pair_days, tally.wetter_figures, tally.more_runs_on);
+    report_rejected();
     report_melt();
     report_frost();
     printf("texts of winters besides: %" PRIu64 ", with %" PRIu64 " days whose frost index is a setpoint or one beside it\n",

@@ -33,7 +33,7 @@ static int antecedent(const struct grid_case *g, const struct day_case *d)
 static bool runs_off(const struct grid_case *g)
 {
     for (uint32_t i = 0; i < g->cells; i++)
-        if (worlds[0].slice[OUTFLOW][i] > 0 && !case_is_water(g, i))
+        if (worlds[0].slice[OUTFLOW][i] > worlds[0].slice[REJECTED][i] && !case_is_water(g, i))
             return true;
     return false;
 }

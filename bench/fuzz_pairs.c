@@ -43,6 +43,8 @@ void run_pair(struct grid_case *g, struct state_case *less, unsigned wetter)
                 if (k == INTERCEPTED && worlds[0].slice[k][i] != first.slice[k][i])
                     fail("demand 3: the interception of cell %" PRIu32 " differs", i);
                 tally.wetter_figures += worlds[0].slice[k][i] > first.slice[k][i];
+                tally.more_runs_on += k == REJECTED && worlds[0].slice[k][i] > first.slice[k][i] &&
+                                      case_next(g, i) != CASE_STAYS;
             }
         for (int i = 2; i <= 5; i++)
             came_out += (int64_t)(worlds[0].totals[i] - first.totals[i]);

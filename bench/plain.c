@@ -111,13 +111,14 @@ uint64_t plain_day(BALANCE_SETUP_PARAMETERS, BALANCE_STATE_PARAMETERS,
         }
     }
 
-    /* Totals: sums over the cells. */
+    /* Totals: sums over the cells; of what is rejected, closed depressions alone (M-104). */
     for (uint32_t cell = 0; cell < cells; cell++) {
         totals[0] += gross;
         totals[1] += intercepted[cell];
         totals[2] += evapotranspired[cell];
         totals[3] += recharged[cell];
-        totals[4] += rejected[cell];
+        if (ways[cell].goes == NOWHERE)
+            totals[4] += rejected[cell];
         if (is_open_water(&s, cell) || ways[cell].goes == LEAVES)
             totals[5] += outflow[cell];
         totals[6] += (uint64_t)soil[cell] + snow[cell];

@@ -101,7 +101,7 @@ int64_t plain_curve_number(int64_t n, enum plain_condition condition)
     }
 }
 
-/* Rule 6, but for closed depressions. Where a is positive, b is not below a. */
+/* Rule 6, the runoff, but for closed depressions. Where a is positive, b is not below a. */
 int64_t plain_runoff(int64_t c, int64_t w)
 {
     int64_t a = c * (w + 20000) - 2000000;
@@ -194,9 +194,13 @@ struct cell_day plain_cell_rules(const struct setup *s, const struct day *day,
 
     int64_t number = plain_curve_number(of_group(s, cell, CURVE), condition); /* rule 5 */
 
-    c.outflow = way.goes == NOWHERE ? 0 : plain_runoff(number, w); /* rule 6 */
+    int64_t runoff = way.goes == NOWHERE ? 0 : plain_runoff(number, w); /* rule 6 */
 
-    soil_rules(&c, w - c.outflow, day->potential, capacity_of(s, cell), /* rules 7 and 8 */
+    soil_rules(&c, w - runoff, day->potential, capacity_of(s, cell), /* rules 7 and 8 */
                of_group(s, cell, RECHARGE));
+
+    /* M-104: rejected recharge joins the outflow. Only in a closed depression does it leave the
+     * balance. */
+    c.outflow = way.goes == NOWHERE ? 0 : runoff + c.rejected;
     return c;
 }

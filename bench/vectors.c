@@ -167,5 +167,6 @@ int main(int argc, char **argv)
     /* As they landed, so that the numbers before them are what they were. */
     frost_cases();
     melt_cases();
+    rejected_cases();
     return fclose(pack) == 0 && fclose(list) == 0 ? 0 : 2;
 }

@@ -20,12 +20,13 @@ void put_three_covers(void);
 void vector(const char *name, const char *ends, const char *reason);
 
 /* The cases of vectors_form.c, vectors_limits.c, vectors_grid.c, vectors_weather.c,
- * vectors_frost.c and vectors_melt.c. */
-void form_cases(void);    /* characters, numbers, length, cut-off ends: refusal 11 */
-void limit_cases(void);   /* each field just inside and just outside: 1, 3, 4, 6, 7, 8 */
-void grid_cases(void);    /* flow over small and largest grids, rings: 5 */
-void weather_cases(void); /* seasons, conditions, snow, dry spells: 10 */
-void frost_cases(void);   /* frozen ground, M-106 */
-void melt_cases(void);    /* melt in millimetres, M-100 */
+ * vectors_frost.c, vectors_melt.c and vectors_rejected.c. */
+void form_cases(void);     /* characters, numbers, length, cut-off ends: refusal 11 */
+void limit_cases(void);    /* each field just inside and just outside: 1, 3, 4, 6, 7, 8 */
+void grid_cases(void);     /* flow over small and largest grids, rings: 5 */
+void weather_cases(void);  /* seasons, conditions, snow, dry spells: 10 */
+void frost_cases(void);    /* frozen ground, M-106 */
+void melt_cases(void);     /* melt in millimetres, M-100 */
+void rejected_cases(void); /* rejected recharge that runs on, M-104 */
 
 #endif

@@ -6,7 +6,7 @@
 #include <stdio.h>
 #include <stdlib.h>
 
-enum { MOST_RECHARGE = 6000 };
+enum { MOST_RECHARGE = 100000 }; /* more than sinks in on any of these days, so that what is gone is runoff */
 
 void put_bare(int curve)
 {
@@ -35,9 +35,7 @@ void foretell(const char *format, ...)
 
 void foretell_day(int serial, int gross, int w, int gone, int snow)
 {
-    int sinks = w - gone, recharged = sinks < MOST_RECHARGE ? sinks : MOST_RECHARGE;
-
-    foretell("%d %d 0 0 %d %d %d %d\n", serial, gross, recharged, sinks - recharged, gone, snow);
+    foretell("%d %d 0 0 %d 0 %d %d\n", serial, gross, w - gone, gone, snow);
 }
 
 void foretold_vector(const char *name, int days, const char *reason)

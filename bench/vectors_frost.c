@@ -163,18 +163,18 @@ enum { AT_SECOND = 3 }; /* of `brought`: to 83,000, so that 18,181 units run off
 
 static void frozen_grids(void)
 {
-    put("2 1 120 270\n2\n"), put_cover(3, 0, 75, 6000, 0, 0, 0), put_cover(4, 0, 75, 100000, 0, 0, 0);
+    put("2 1 120 270\n2\n"), put_cover(3, 0, 75, 100000, 0, 0, 0), put_cover(4, 0, 75, 6000, 0, 0, 0);
     put("1 3 2 200\n0 4 2 200\n"), put_brought(1, DORMANT, AT_SECOND);
-    foretell("3 60000 0 0 54181 5819 0 0\n");
-    foretold_vector("a frozen ridge over a valley", 3, "18,181 units run off the ridge and recharge in the valley");
+    foretell("3 60000 0 0 17819 42181 0 0\n");
+    foretold_vector("a frozen ridge over a valley", 3, "18,181 units run off the ridge, and the valley can't take them");
 
-    put("2 1 120 270\n2\n"), put_cover(3, 0, 75, 6000, 0, 0, 0), put_cover(4, 1, 75, 6000, 0, 0, 0);
+    put("2 1 120 270\n2\n"), put_cover(3, 0, 75, 100000, 0, 0, 0), put_cover(4, 1, 75, 6000, 0, 0, 0);
     put("1 3 2 200\n0 4 2 200\n"), put_brought(1, DORMANT, AT_SECOND);
-    foretell("3 60000 0 0 6000 5819 48181 0\n");
+    foretell("3 60000 0 0 11819 0 48181 0\n");
     foretold_vector("a frozen ridge over a lake", 3, "what falls on the lake and what runs off the ridge is gone");
 
     put("1 1 120 270\n1\n"), put_cover(3, 0, 75, 6000, 0, 0, 0), put("0 3 2 200\n"), put_brought(1, DORMANT, AT_SECOND);
-    foretell_day(3, 30000, 30000, 0, 0);
+    foretell("3 30000 0 0 6000 24000 0 0\n");
     foretold_vector("a closed depression in frost", 3, "its outflow is 0, frozen or not");
 }
 

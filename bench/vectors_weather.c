@@ -5,11 +5,12 @@
 
 /* ---------------------------------------------------------------- seasons and conditions */
 
-/* One cell that runs off over the edge, of curve number 75, with interception 900 and 100. */
+/* One cell that runs off over the edge, of curve number 75, with interception 900 and 100. All its excess recharges, so that
+ * what is gone tells the runoff. */
 static void put_slope(int first, int last, int root)
 {
     put("1 1 %d %d\n1\n", first, last);
-    put_cover(3, 0, 75, 6000, 900, 100, root);
+    put_cover(3, 0, 75, 100000, 900, 100, root);
     put("1 3 2 200\n");
 }
 
@@ -61,13 +62,13 @@ static void conditions(void)
     vector("a storm is forgotten after five days", "end 8", "III on days 2 to 6, then as the sum has it; today is not counted");
 }
 
-/* All 71 curve numbers at once, each on a cell of its own that drains over the edge, in every condition. */
+/* All 71 curve numbers at once, each on a cell of its own that drains over the edge, in every condition; what sinks in recharges. */
 static void curve_numbers(void)
 {
     put("1 71 120 270\n18\n");
     for (int i = 0; i < 18; i++) {
         int n = 30 + 4 * i, last = i == 17 ? 100 : n + 3;
-        put("%d 0 %d %d %d %d 0 0 0 0 0 0 0 0 0 0\n", i + 1, n, n + 1, n + 2, last);
+        put("%d 0 %d %d %d %d 100000 100000 100000 100000 0 0 0 0 0 0\n", i + 1, n, n + 1, n + 2, last);
     }
     for (int i = 0; i < 71; i++)
         put("1 %d %d 0\n", i / 4 + 1, i % 4 + 1);

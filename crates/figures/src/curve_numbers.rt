@@ -1,4 +1,4 @@
-// The curve numbers of rule 5, read off outflows: documents 000 and 002 print such tables.
+// The curve numbers of rule 5, read off runoffs: documents 000 and 002 print such tables.
 ghost use Prim.Native.Nat.{_*_, _≤_};
 ghost use mathlib.Core.Path.{_≡_};
 use crate::one_cell::Ground;
@@ -16,7 +16,7 @@ fn times(x: u64, y: u64) -> u64
     x * y
 }
 
-// Rule 6 at 40 inches of water, to read a curve number off an outflow.
+// Rule 6 at 40 inches of water, to read a curve number off a runoff.
 fn flows(c: u64) -> u64
     requires { ⌜ (5 ≤ c) × (c ≤ 100) ⌝ }
 {
@@ -25,11 +25,11 @@ fn flows(c: u64) -> u64
     times(a, a) / times(c, b)
 }
 
-// The curve number with this outflow, or 0. At 40 inches no two curve numbers flow alike.
-fn read_off(outflow: u64) -> u64 {
+// The curve number with this runoff, or 0. At 40 inches no two curve numbers flow alike.
+fn read_off(runoff: u64) -> u64 {
     let mut c = 5;
     while c <= 100 {
-        if flows(c) == outflow {
+        if flows(c) == runoff {
             return c;
         }
         c += 1;
@@ -37,12 +37,13 @@ fn read_off(outflow: u64) -> u64 {
     0
 }
 
-// The curve number that the library takes for the table's n after this much rain in the five days before.
+// The curve number that the library takes for the table's n after this much rain in the five days before. The soil is deep and dry, so that it
+// rejects nothing and all that flows out is runoff.
 fn taken(n: u32, sum: u64) -> u64 {
     let ground = Ground {
         curve: n,
-        root: 0,
-        water: 0,
+        root: 1000,
+        water: 600,
     };
     let cell = lived(
         ground,
@@ -51,8 +52,8 @@ fn taken(n: u32, sum: u64) -> u64 {
         remembered(sum, 0),
         weather(400000, 600, 700, 800, 0),
     );
-    let outflow = cell.outflow;
-    read_off(wide(outflow))
+    let runoff = cell.outflow;
+    read_off(wide(runoff))
 }
 
 fn converted(n: u32) {

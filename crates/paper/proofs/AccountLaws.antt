@@ -40,15 +40,15 @@ module _ (s : Setup) (st : State) (r : Results) (d : Day) (ok : SoundDay s st r 
   n = cells s
 
   abbrev W : ℕ → ℕ
-  W = water n (next s) (passed s t) (own s st t)
+  W = water n (next s) (passed s st t) (own s st t)
 
   -- the outflow of a cell is what it passes on of its water
-  pub outflow-is : (i : ℕ) → i < n → figuresOf s st d i .outflow ≡ passed s t i (W i)
+  pub outflow-is : (i : ℕ) → i < n → figuresOf s st d i .outflow ≡ passed s st t i (W i)
   unfolding figuresOf figures passed own
   outflow-is i h =
-      day-outflow (cell s i) t (soilAt st i) (snowAt st i) (inflow s st t i) ∙ ap (passedOf (cell s i) t) (sym (reached s st r d ok i h))
+      day-outflow (cell s i) t (soilAt st i) (snowAt st i) (inflow s st t i) ∙ ap (passedOf (cell s i) t (soilAt st i)) (sym (reached s st r d ok i h))
 
-  closed-none : (i w : ℕ) → goes s i ≡ stays → passed s t i w ≡ 0
+  closed-none : (i w : ℕ) → goes s i ≡ stays → passed s st t i w ≡ 0
   unfolding passed passedOf cell isClosed
   closed-none i w g =
       byCases (isOpen s i) (λ o. absurd (open-not-stays (sym (goes-open s (ok .setup .charted) i o) ∙ g)))
@@ -59,15 +59,15 @@ module _ (s : Setup) (st : State) (r : Results) (d : Day) (ok : SoundDay s st r 
 
   -- what a cell passes on is gone or arrives in the grid, and a closed depression passes nothing on
   gone-or-inside : (i : ℕ) → i < n → (w : ℕ)
-      → given (isGone s i) (passed s t i w) + given (ltb (next s i) n) (passed s t i w) ≡ passed s t i w
+      → given (isGone s i) (passed s st t i w) + given (ltb (next s i) n) (passed s st t i w) ≡ passed s st t i w
   unfolding isGone next
   gone-or-inside i h w =
-      one-of (ok .setup .charted .few) (goes s i) (passed s t i w) (λ j. to-inside s (ok .setup .charted) i j h) (closed-none i w)
+      one-of (ok .setup .charted .few) (goes s i) (passed s st t i w) (λ j. to-inside s (ok .setup .charted) i j h) (closed-none i w)
 
   inflows : sum n (inflow s st t) ≡ sum n (λ i. given (ltb (next s i) n) (figuresOf s st d i .outflow))
   unfolding inflow
   inflows =
-      arriving-inside n (next s) (passed s t) W
+      arriving-inside n (next s) (passed s st t) W
       ∙ sum-cong n _ _ (λ i h. ap (given (ltb (next s i) n)) (sym (outflow-is i h)))
 
   outflows : sum n (λ i. figuresOf s st d i .outflow)
@@ -88,7 +88,7 @@ module _ (s : Setup) (st : State) (r : Results) (d : Day) (ok : SoundDay s st r 
   -- stores, gross precipitation and inflow of each cell
   each-account : (i : ℕ) → i < n → let f : Figures = figuresOf s st d i in
       soilAt st i + snowAt st i + d .gross + inflow s st t i
-      ≡ f .intercepted + f .evapotranspired + f .recharged + f .rejected + f .outflow + (f .soil + f .snow)
+      ≡ f .intercepted + f .evapotranspired + f .recharged + given (cell s i .closed?) (f .rejected) + f .outflow + (f .soil + f .snow)
   unfolding figuresOf figures today
   each-account i h =
       omega (arith, cell-account (cell s i) t (soilAt st i) (snowAt st i) (inflow s st t i) (small s st r d ok i h) (empty i h))
@@ -99,7 +99,7 @@ module _ (s : Setup) (st : State) (r : Results) (d : Day) (ok : SoundDay s st r 
       ≡ sum n (λ i. f i .intercepted)
       + sum n (λ i. f i .evapotranspired)
       + sum n (λ i. f i .recharged)
-      + sum n (λ i. f i .rejected)
+      + sum n (λ i. given (cell s i .closed?) (f i .rejected))
       + sum n (λ i. given (isGone s i) (f i .outflow))
       + sum n (λ i. f i .soil + f i .snow)
   account =
@@ -108,13 +108,13 @@ module _ (s : Setup) (st : State) (r : Results) (d : Day) (ok : SoundDay s st r 
         arith,
         outflows,
         sum-cong n (λ i. soilAt st i + snowAt st i + d .gross + inflow s st t i)
-            (λ i. f i .intercepted + f i .evapotranspired + f i .recharged + f i .rejected + f i .outflow + (f i .soil + f i .snow))
+            (λ i. f i .intercepted + f i .evapotranspired + f i .recharged + given (cell s i .closed?) (f i .rejected) + f i .outflow + (f i .soil + f i .snow))
             each-account,
         sum-add n (λ i. soilAt st i + snowAt st i + d .gross) (inflow s st t),
         sum-add n (λ i. soilAt st i + snowAt st i) (λ i. d .gross),
-        sum-add n (λ i. f i .intercepted + f i .evapotranspired + f i .recharged + f i .rejected + f i .outflow) (λ i. f i .soil + f i .snow),
-        sum-add n (λ i. f i .intercepted + f i .evapotranspired + f i .recharged + f i .rejected) (λ i. f i .outflow),
-        sum-add n (λ i. f i .intercepted + f i .evapotranspired + f i .recharged) (λ i. f i .rejected),
+        sum-add n (λ i. f i .intercepted + f i .evapotranspired + f i .recharged + given (cell s i .closed?) (f i .rejected) + f i .outflow) (λ i. f i .soil + f i .snow),
+        sum-add n (λ i. f i .intercepted + f i .evapotranspired + f i .recharged + given (cell s i .closed?) (f i .rejected)) (λ i. f i .outflow),
+        sum-add n (λ i. f i .intercepted + f i .evapotranspired + f i .recharged) (λ i. given (cell s i .closed?) (f i .rejected)),
         sum-add n (λ i. f i .intercepted + f i .evapotranspired) (λ i. f i .recharged),
         sum-add n (λ i. f i .intercepted) (λ i. f i .evapotranspired),
       )

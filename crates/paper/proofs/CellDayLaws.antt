@@ -1,10 +1,11 @@
 -- One cell's day: it is no smaller in any figure where gross precipitation, inflow, soil and snow are no smaller, and its account is an
 -- equation. Each figure is put together from rules that rise: net and interception with gross, the store and what it keeps after the melt
--- with snow, outflow and infiltration with the water, and rules 7 and 8 with infiltration and soil.
-use mathlib.Core.Path.{_≡_, sym, ap, _∙_, subst⁻¹, fun-ext}
+-- with snow, runoff and infiltration with the water, rules 7 and 8 with infiltration and soil, and so the outflow. Rejected recharge runs on or leaves
+-- the balance, never both: outflow and what leaves are together runoff and rejected recharge, neither of which is water twice.
+use mathlib.Core.Path.{_≡_, refl, sym, ap, _∙_, subst⁻¹, fun-ext}
 use mathlib.Core.Bool.{true, false, cond, not}
 use Prim.Native.Nat.{ℕ, _+_, _-_, _≤_, zero-le}
-use native.Mathlib.Nat.{le-refl, le-trans, add-le-add, zero-add, add-zero, sub-le}
+use native.Mathlib.Nat.{le-trans, le-of-eq, add-le-add, zero-add, add-zero, sub-le}
 use native.Mathlib.Omega.{arith}
 use Rattle.theory.specs.Sums.{given}
 use Rattle.theory.proofs.Cases.{byCases, cond-true, cond-false}
@@ -24,8 +25,9 @@ use Rattle.paper.specs.CellDay.{
   storeOf,
   meltOf,
   ownOf,
-  passedOf,
+  runoffOf,
   groundOf,
+  passedOf,
   Figures,
   openDay,
   landDay,
@@ -67,14 +69,33 @@ module _ (c : Cell) (t : Today) where
   unfolding ownOf
   own-land snow e = cond-false (c .open?) e _ _
 
-  -- what holds of passing all, nothing and rule 6's runoff holds of the cell's outflow
-  passed-by : (P : (ℕ → ℕ) → Type 0) → P (λ w. w) → P (λ w. 0) → P (runoff (curveNumber (t .condition) (c .N))) → P (passedOf c t)
+  -- what holds of no runoff and of rule 6's holds of the cell's
+  runoff-by : (P : (ℕ → ℕ) → Type 0) → P (λ w. 0) → P (runoff (curveNumber (t .condition) (c .N))) → P (runoffOf c t)
+  unfolding runoffOf
+  runoff-by P none some =
+      byCases (c .closed?) (λ f. subst⁻¹ P (fun-ext (λ w. cond-true (c .closed?) f _ _)) none)
+      (λ f. subst⁻¹ P (fun-ext (λ w. cond-false (c .closed?) f _ _)) some)
+
+  passed-open : (soil w : ℕ) → c .open? ≡ true → passedOf c t soil w ≡ w
   unfolding passedOf
-  passed-by P whole none some =
-      byCases (c .open?) (λ e. subst⁻¹ P (fun-ext (λ w. cond-true (c .open?) e _ _)) whole)
-      (λ e. byCases (c .closed?)
-      (λ f. subst⁻¹ P (fun-ext (λ w. cond-false (c .open?) e _ _ ∙ cond-true (c .closed?) f _ _)) none)
-      (λ f. subst⁻¹ P (fun-ext (λ w. cond-false (c .open?) e _ _ ∙ cond-false (c .closed?) f _ _)) some))
+  passed-open soil w e = cond-true (c .open?) e _ _
+
+  passed-closed : (soil w : ℕ) → c .open? ≡ false → c .closed? ≡ true → passedOf c t soil w ≡ 0
+  unfolding passedOf
+  passed-closed soil w e f = cond-false (c .open?) e _ _ ∙ cond-true (c .closed?) f _ _
+
+  passed-on : (soil w : ℕ) → c .open? ≡ false → c .closed? ≡ false → passedOf c t soil w ≡ runoffOf c t w + groundOf c t soil w .rejected
+  unfolding passedOf
+  passed-on soil w e f = cond-false (c .open?) e _ _ ∙ cond-false (c .closed?) f _ _
+
+  -- rejected recharge once: it joins the runoff, or in a closed depression, which has no runoff, it leaves the balance
+  pub rejected-once : (soil w : ℕ) → c .open? ≡ false
+      → passedOf c t soil w + given (c .closed?) (groundOf c t soil w .rejected) ≡ runoffOf c t w + groundOf c t soil w .rejected
+  unfolding given runoffOf
+  rejected-once soil w e =
+      byCases (c .closed?)
+      (λ f. rw (passed-closed soil w e f) (simp f refl))
+      (λ f. rw (passed-on soil w e f) (simp f (add-zero _)))
 
   pub day-open : (soil snow inflow : ℕ) → c .open? ≡ true → cellDay c t soil snow inflow ≡ openDay (t .gross + inflow)
   unfolding cellDay
@@ -86,12 +107,12 @@ module _ (c : Cell) (t : Today) where
   day-land soil snow inflow e = cond-false (c .open?) e _ _
 
   -- the outflow is what the cell passes on of its water
-  pub day-outflow : (soil snow inflow : ℕ) → cellDay c t soil snow inflow .outflow ≡ passedOf c t (ownOf c t snow + inflow)
-  unfolding openDay landDay passedOf
+  pub day-outflow : (soil snow inflow : ℕ) → cellDay c t soil snow inflow .outflow ≡ passedOf c t soil (ownOf c t snow + inflow)
+  unfolding openDay landDay
   day-outflow soil snow inflow =
       byCases (c .open?)
       (λ e. ap (λ (r : Figures). r .outflow) (day-open soil snow inflow e)
-      ∙ sym (cond-true (c .open?) e _ _ ∙ ap (λ (w : ℕ). w + inflow) (own-open snow e)))
+      ∙ sym (passed-open soil _ e ∙ ap (λ (w : ℕ). w + inflow) (own-open snow e)))
       (λ e. ap (λ (r : Figures). r .outflow) (day-land soil snow inflow e))
 
   -- interception goes by gross precipitation and the season alone
@@ -127,42 +148,68 @@ module _ (c : Cell) (t : Today) where
       byCases (c .open?) (λ e. omega (arith, own-open snow e))
       (λ e. omega (arith, own-land snow e, gross-and-net, given-most (not (t .snows?)) (netOf c t)))
 
-  module _ (small : curveNumber (t .condition) (c .N) ≤ 100) where
-    pub passed-most : (w : ℕ) → passedOf c t w ≤ w
-    passed-most =
-        passed-by (λ out. (w : ℕ) → out w ≤ w) (λ w. le-refl w) (λ w. zero-le) (λ w. runoff-most _ w small)
+  runoff-within : (w : ℕ) → curveNumber (t .condition) (c .N) ≤ 100 → runoffOf c t w ≤ w
+  runoff-within w small = runoff-by (λ out. out w ≤ w) zero-le (runoff-most _ w small)
 
-    pub passed-rises : (w v : ℕ) → w ≤ v → passedOf c t w ≤ passedOf c t v
-    passed-rises =
-        passed-by (λ out. (w v : ℕ) → w ≤ v → out w ≤ out v) (λ w v h. h) (λ w v h. zero-le) (λ w v h. runoff-rises small h)
-
-    kept-rises : (w v : ℕ) → w ≤ v → w - passedOf c t w ≤ v - passedOf c t v
-    kept-rises =
-        passed-by (λ out. (w v : ℕ) → w ≤ v → w - out w ≤ v - out v) (λ w v h. omega arith) (λ w v h. omega arith)
-        (λ w v h. infiltration-rises small h)
-
+  -- rejected recharge leaves the balance in a closed depression alone
   pub cell-account : (soil snow inflow : ℕ) → curveNumber (t .condition) (c .N) ≤ 100
       → (c .open? ≡ true → (soil ≡ 0) × (snow ≡ 0))
       → let r : Figures = cellDay c t soil snow inflow in
       t .gross + inflow + soil + snow
-      ≡ r .intercepted + r .outflow + r .evapotranspired + r .recharged + r .rejected + r .soil + r .snow
+      ≡ r .intercepted + r .outflow + r .evapotranspired + r .recharged + given (c .closed?) (r .rejected) + r .soil + r .snow
   unfolding openDay landDay groundOf
   cell-account soil snow inflow small empty =
-      byCases (c .open?) (λ e. let z : (soil ≡ 0) × (snow ≡ 0) = empty e in rw (day-open soil snow inflow e) (omega arith))
+      byCases (c .open?)
+      (λ e. let z : (soil ≡ 0) × (snow ≡ 0) = empty e in
+      rw (day-open soil snow inflow e) (omega (arith, given-most (c .closed?) 0)))
       (λ e. let w : ℕ = ownOf c t snow + inflow in
       rw (day-land soil snow inflow e)
       (omega (
         arith,
         own-account snow e,
-        passed-most small w,
-        soil-account (c .capacity) (c .largest) soil (w - passedOf c t w) (t .potential),
+        rejected-once soil w e,
+        runoff-within w small,
+        soil-account (c .capacity) (c .largest) soil (w - runoffOf c t w) (t .potential),
       )))
 
-  pub rejected-at-most : (soil snow inflow : ℕ) → c .open? ≡ false → soil ≤ c .capacity
-      → cellDay c t soil snow inflow .rejected ≤ ownOf c t snow + inflow - cellDay c t soil snow inflow .outflow
-  unfolding landDay groundOf
-  rejected-at-most soil snow inflow e h =
-      rw (day-land soil snow inflow e) (rejected-most (c .capacity) (c .largest) soil _ (t .potential) h)
+  module _ (small : curveNumber (t .condition) (c .N) ≤ 100) where
+    -- what is rejected was infiltration, which is w less the runoff
+    pub passed-most : (soil w : ℕ) → soil ≤ mostSoilOf c → passedOf c t soil w ≤ w
+    unfolding mostSoilOf groundOf
+    passed-most soil w p =
+        byCases (c .open?) (λ e. le-of-eq (passed-open soil w e))
+        (λ e. omega (
+          arith,
+          rejected-once soil w e,
+          runoff-within w small,
+          rejected-most (c .capacity) (c .largest) soil (w - runoffOf c t w) (t .potential) (rw (cond-false (c .open?) e) at p),
+        ))
+
+    -- no outflow passes w, open water aside
+    pub outflow-at-most : (soil snow inflow : ℕ) → c .open? ≡ false → soil ≤ mostSoilOf c
+        → cellDay c t soil snow inflow .outflow ≤ rainOf c t + meltOf c t snow + inflow
+    outflow-at-most soil snow inflow e p =
+        omega (arith, day-outflow soil snow inflow, own-land snow e, passed-most soil (ownOf c t snow + inflow) p)
+
+    runoff-more : (w v : ℕ) → w ≤ v → runoffOf c t w ≤ runoffOf c t v
+    runoff-more = runoff-by (λ out. (w v : ℕ) → w ≤ v → out w ≤ out v) (λ w v h. zero-le) (λ w v h. runoff-rises small h)
+
+    kept-rises : (w v : ℕ) → w ≤ v → w - runoffOf c t w ≤ v - runoffOf c t v
+    kept-rises =
+        runoff-by (λ out. (w v : ℕ) → w ≤ v → w - out w ≤ v - out v) (λ w v h. omega arith) (λ w v h. infiltration-rises small h)
+
+    ground-rises : (soil soil' w v : ℕ) → soil ≤ soil' → soil' ≤ c .capacity → w ≤ v
+        → SoilLaws.NoSmaller (groundOf c t soil w) (groundOf c t soil' v)
+    unfolding groundOf
+    ground-rises soil soil' w v p q h = soil-rises (c .capacity) (c .largest) soil soil' _ _ (t .potential) p q (kept-rises w v h)
+
+    pub passed-rises : (soil soil' w v : ℕ) → soil ≤ soil' → soil' ≤ mostSoilOf c → w ≤ v → passedOf c t soil w ≤ passedOf c t soil' v
+    unfolding mostSoilOf
+    passed-rises soil soil' w v p q h =
+        byCases (c .open?) (λ e. rw (passed-open soil w e, passed-open soil' v e) h)
+        (λ e. byCases (c .closed?) (λ f. rw (passed-closed soil w e f) zero-le)
+        (λ f. rw (passed-on soil w e f, passed-on soil' v e f)
+        (add-le-add (runoff-more w v h) (ground-rises soil soil' w v p (rw (cond-false (c .open?) e) at q) h .rejected))))
 
   -- the soil stays within its capacity, and open water keeps nothing
   pub end-soil : (soil snow inflow : ℕ) → soil ≤ mostSoilOf c → cellDay c t soil snow inflow .soil ≤ mostSoilOf c
@@ -198,18 +245,18 @@ module _ (c : Cell) (t : Today) (g h : ℕ) (more : g ≤ h) where
   pub cell-rises : (soil soil' snow snow' inflow inflow' : ℕ) → curveNumber (t .condition) (c .N) ≤ 100
       → soil ≤ soil' → soil' ≤ mostSoilOf c → snow ≤ snow' → inflow ≤ inflow'
       → Rises (cellDay c (raining t g) soil snow inflow) (cellDay c (raining t h) soil' snow' inflow')
-  unfolding openDay landDay groundOf mostSoilOf passedOf interceptedOf intercepted figureOf meltOf melt
+  unfolding openDay landDay groundOf mostSoilOf passedOf runoffOf interceptedOf intercepted figureOf meltOf melt
   cell-rises soil soil' snow snow' inflow inflow' small p q s i =
       byCases (c .open?)
       (λ e. rw (day-open c (raining t g) soil snow inflow e, day-open c (raining t h) soil' snow' inflow' e) (omega arith))
       (λ e.
       let water : ownOf c (raining t g) snow + inflow ≤ ownOf c (raining t h) snow' + inflow' = add-le-add (own-rises snow snow' s) i in
       let ground : SoilLaws.NoSmaller (groundOf c (raining t g) soil (ownOf c (raining t g) snow + inflow)) (groundOf c (raining t h) soil' (ownOf c (raining t h) snow' + inflow'))
-      = soil-rises (c .capacity) (c .largest) soil soil' _ _ (t .potential) p (rw (cond-false (c .open?) e) at q) (kept-rises c t small _ _ water) in
+      = ground-rises c t small soil soil' _ _ p (rw (cond-false (c .open?) e) at q) water in
       rw (day-land c (raining t g) soil snow inflow e, day-land c (raining t h) soil' snow' inflow' e)
       (record {
         intercepted = omega arith;
-        outflow = passed-rises c t small _ _ water;
+        outflow = passed-rises c t small soil soil' _ _ p q water;
         evapotranspired = ground .evapotranspired;
         recharged = ground .recharged;
         rejected = ground .rejected;

@@ -18,14 +18,14 @@ use Rattle.paper.specs.Limits.{mostSnow, mostGross, mostFrost, leastTemp
 use Rattle.paper.specs.Setup.{Setup, cell, cells, next}
 use Rattle.paper.specs.State.{State, Day, mostSoilOf, mostSnowOf, soilAt, snowAt, storesFit, memoryFits, lastFits, pastFits, dayFits, follows, remembered, serial, pastAfter}
 use Rattle.paper.specs.CurveNumber.{curveNumber}
-use Rattle.paper.specs.CellDay.{Today, today, storeOf}
+use Rattle.paper.specs.CellDay.{Today, today, rainOf, storeOf, meltOf}
 use Rattle.paper.specs.Flow.{water}
 use Rattle.paper.specs.Refusals.{Refusal, Verdict, accepted, refused, verdict, single, oneEach, setupLengths, setupTests, mapTests, stateFits, tooDeep, dayTests}
 use Rattle.paper.specs.Day.{own, passed, inflow, figures, Results, noTotals, nextState, lengthsOf, verdictOf, figuresOf, outcomeAs, dayOf}
 use Rattle.paper.proofs.SnowLaws.{melt-most}
 use Rattle.paper.proofs.CurveNumberLaws.{curve-number-limits}
 use Rattle.paper.proofs.FrostLaws.{frost-kept}
-use Rattle.paper.proofs.CellDayLaws.{end-soil, end-snow, own-most, passed-most}
+use Rattle.paper.proofs.CellDayLaws.{end-soil, end-snow, own-most, passed-most, outflow-at-most}
 use Rattle.paper.proofs.FlowLaws.{water-reached, water-most}
 use Rattle.paper.proofs.RefusalLaws.{Passes, testAt, accepted-passes}
 use Rattle.paper.proofs.SetupLaws.{Sound, sound, SoundCell, sound-cell, upslope}
@@ -110,7 +110,7 @@ module _ (s : Setup) (st : State) (r : Results) (d : Day) (ok : SoundDay s st r 
   n = cells s
 
   abbrev W : ℕ → ℕ
-  W = water n (next s) (passed s t) (own s st t)
+  W = water n (next s) (passed s st t) (own s st t)
 
   -- the lent slices have one entry a cell
   pub direction-each : length (s .direction) ≡ n
@@ -133,7 +133,7 @@ module _ (s : Setup) (st : State) (r : Results) (d : Day) (ok : SoundDay s st r 
   -- the water that reaches a cell is its own and its inflow
   pub reached : (i : ℕ) → i < n → W i ≡ own s st t i + inflow s st t i
   unfolding inflow
-  reached i h = water-reached n (next s) (passed s t) order (own s st t) i h
+  reached i h = water-reached n (next s) (passed s st t) order (own s st t) i h
 
   -- within the limits no cell's own water passes 450,000 units, so that no cell's water reaches 2,000,000,000
   gross-limit : d .gross ≤ mostGross
@@ -157,8 +157,15 @@ module _ (s : Setup) (st : State) (r : Results) (d : Day) (ok : SoundDay s st r 
       omega (
         arith,
         all-own,
-        water-most n (next s) (passed s t) order (λ j w hj. unfold passed in passed-most (cell s j) t (small j hj) w) (own s st t) i h,
+        water-most n (next s) (passed s st t) order
+            (λ j w hj. unfold passed in passed-most (cell s j) t (small j hj) (soilAt st j) w (ok .soil j hj)) (own s st t) i h,
       )
+
+  -- no outflow passes w, open water aside
+  pub outflow-limit : (i : ℕ) → i < n → cell s i .open? ≡ false
+      → figuresOf s st d i .outflow ≤ rainOf (cell s i) t + meltOf (cell s i) t (snowAt st i) + inflow s st t i
+  unfolding figuresOf figures
+  outflow-limit i h land = outflow-at-most (cell s i) t (small i h) (soilAt st i) (snowAt st i) (inflow s st t i) land (ok .soil i h)
 
   kept-memory : memoryFits (remembered (st .past .memory) (d .gross)) ≡ true
   unfolding memoryFits remembered

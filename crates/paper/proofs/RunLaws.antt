@@ -16,7 +16,7 @@ use Rattle.paper.specs.CurveNumber.{curveNumber}
 use Rattle.paper.specs.Frost.{frostAfter}
 use Rattle.paper.specs.Setup.{Setup, cell, cells, next}
 use Rattle.paper.specs.State.{State, Day, Past, pastAfter, mostSoilOf, soilAt, snowAt}
-use Rattle.paper.specs.CellDay.{Today, today, passedOf, Figures}
+use Rattle.paper.specs.CellDay.{Today, today, runoffOf, groundOf, passedOf, Figures}
 use Rattle.paper.specs.Refusals.{accepted}
 use Rattle.paper.specs.Day.{own, passed, inflow, figures, isGone, Results, totalsOf, resultsOf, nextState, verdictOf, figuresOf, outcomeAs, dayOf}
 use Rattle.paper.specs.Run.{Standing, start, afterDay, oneDay, days, Accepted, stored, Wetter, NoSmaller, Demand3}
@@ -31,10 +31,10 @@ module _ (s : Setup) (a b : State) (t : Today) (g h : ℕ) (more : g ≤ h)
     (room : (i : ℕ) → i < cells s → soilAt b i ≤ mostSoilOf (cell s i))
     (numbers : (i : ℕ) → i < cells s → curveNumber (t .condition) (cell s i .N) ≤ 100) where
   inflow-rises : (i : ℕ) → inflow s a (raining t g) i ≤ inflow s b (raining t h) i
-  unfolding inflow passed passedOf own
+  unfolding inflow passed passedOf runoffOf groundOf own
   inflow-rises =
-      arriving-rises (cells s) (next s) (passed s t) (passed s t)
-      (λ j w v hj less. passed-rises (cell s j) t (numbers j hj) w v less)
+      arriving-rises (cells s) (next s) (passed s a t) (passed s b t)
+      (λ j w v hj less. passed-rises (cell s j) t (numbers j hj) (soilAt a j) (soilAt b j) w v (soil j) (room j hj) less)
       (own s a (raining t g)) (own s b (raining t h))
       (λ i hi. own-rises (cell s i) t g h more (snowAt a i) (snowAt b i) (snow i))
 
@@ -82,7 +82,7 @@ module _ (s : Setup) (a b : State) (ra rb : Results) (d : Day) (oka : SoundDay s
   leaving figure =
       sum (cells s) (λ i. figure i .evapotranspired)
       + sum (cells s) (λ i. figure i .recharged)
-      + sum (cells s) (λ i. figure i .rejected)
+      + sum (cells s) (λ i. given (cell s i .closed?) (figure i .rejected))
       + sum (cells s) (λ i. given (isGone s i) (figure i .outflow))
 
   -- the extra before is the extra leaving and the extra after
@@ -94,6 +94,9 @@ module _ (s : Setup) (a b : State) (ra rb : Results) (d : Day) (oka : SoundDay s
   more-of : (part : Figures → ℕ) → ((x y : Figures) → Rises x y → part x ≤ part y)
       → sum (cells s) (λ i. part (f i)) ≤ sum (cells s) (λ i. part (g i))
   more-of part up = sum-le (cells s) _ _ (λ i h. up (f i) (g i) (day-rises i h))
+
+  more-rejected : sum (cells s) (λ i. given (cell s i .closed?) (f i .rejected)) ≤ sum (cells s) (λ i. given (cell s i .closed?) (g i .rejected))
+  more-rejected = sum-le (cells s) _ _ (λ i h. given-le (cell s i .closed?) (day-rises i h .rejected))
 
   more-gone : sum (cells s) (λ i. given (isGone s i) (f i .outflow)) ≤ sum (cells s) (λ i. given (isGone s i) (g i .outflow))
   more-gone = sum-le (cells s) _ _ (λ i h. given-le (isGone s i) (day-rises i h .outflow))
@@ -148,7 +151,7 @@ module _ (s : Setup) (firstStart secondStart : State) where
           wetter = wetter-next s (x .state) (y .state) (x .results) (y .results) d okx oky wet;
           evapotranspired = add-le-add (ahead .evapotranspired) (most (λ p. p .evapotranspired) (λ p q up. up .evapotranspired));
           recharged = add-le-add (ahead .recharged) (most (λ p. p .recharged) (λ p q up. up .recharged));
-          rejected = add-le-add (ahead .rejected) (most (λ p. p .rejected) (λ p q up. up .rejected));
+          rejected = add-le-add (ahead .rejected) (more-rejected s (x .state) (y .state) (x .results) (y .results) d okx oky wet);
           gone = add-le-add (ahead .gone) (more-gone s (x .state) (y .state) (x .results) (y .results) d okx oky wet);
           account =
               omega (

@@ -60,9 +60,18 @@ meltOf c t snow = melt (storeOf c t snow) (t .meltable)
 unfoldable pub ownOf : Cell → Today → ℕ → ℕ
 ownOf c t snow = cond (c .open?) (t .gross) (rainOf c t + meltOf c t snow)
 
--- rules 1, 5 and 6: the outflow for water w
-unfoldable pub passedOf : Cell → Today → ℕ → ℕ
-passedOf c t w = cond (c .open?) w (cond (c .closed?) 0 (runoff (curveNumber (t .condition) (c .N)) w))
+-- rules 5 and 6: the runoff for water w
+unfoldable pub runoffOf : Cell → Today → ℕ → ℕ
+runoffOf c t w = cond (c .closed?) 0 (runoff (curveNumber (t .condition) (c .N)) w)
+
+-- rules 7 and 8, with infiltration n = w - runoff
+unfoldable pub groundOf : Cell → Today → ℕ → ℕ → SoilDay
+groundOf c t soil w = soilDay (c .capacity) (c .largest) soil (w - runoffOf c t w) (t .potential)
+
+-- the outflow for water w: rejected recharge joins the runoff and runs on downhill (02, M-104); open water passes off all, and a closed
+-- depression nothing
+unfoldable pub passedOf : Cell → Today → ℕ → ℕ → ℕ
+passedOf c t soil w = cond (c .open?) w (cond (c .closed?) 0 (runoffOf c t w + groundOf c t soil w .rejected))
 
 -- the figures of one cell's day
 pub record Figures : Type 0 where
@@ -79,16 +88,12 @@ unfoldable pub openDay : ℕ → Figures
 openDay w =
     record { intercepted = 0; outflow = w; evapotranspired = 0; recharged = 0; rejected = 0; soil = 0; snow = 0 }
 
--- rules 7 and 8, with infiltration n = w - outflow
-unfoldable pub groundOf : Cell → Today → ℕ → ℕ → SoilDay
-groundOf c t soil w = soilDay (c .capacity) (c .largest) soil (w - passedOf c t w) (t .potential)
-
 -- rules 2 to 8, with water w
 unfoldable pub landDay : Cell → Today → ℕ → ℕ → ℕ → Figures
 landDay c t soil snow w =
     record {
       intercepted = interceptedOf c t;
-      outflow = passedOf c t w;
+      outflow = passedOf c t soil w;
       evapotranspired = groundOf c t soil w .evapotranspired;
       recharged = groundOf c t soil w .recharged;
       rejected = groundOf c t soil w .rejected;

@@ -29,17 +29,17 @@ freshAs s soil snow (refused r) =
 unfoldable pub freshOf : Setup → List ℕ → List ℕ → Fresh
 freshOf s soil snow = freshAs s soil snow (verdict (setupTests s (setupLengths s ++ length soil ∷ length snow ∷ [])))
 
--- each cell's outflow for the water that reached it
-unfoldable pub passed : Setup → Today → ℕ → ℕ → ℕ
-passed s t i w = passedOf (cell s i) t w
-
 -- the day's figures of every cell
 module _ (s : Setup) (st : State) (t : Today) where
   unfoldable pub own : ℕ → ℕ
   own i = ownOf (cell s i) t (snowAt st i)
 
+  -- each cell's outflow for the water that reached it
+  unfoldable pub passed : ℕ → ℕ → ℕ
+  passed i w = passedOf (cell s i) t (soilAt st i) w
+
   unfoldable pub inflow : ℕ → ℕ
-  inflow i = arriving (cells s) (next s) (passed s t) (water (cells s) (next s) (passed s t) own) i
+  inflow i = arriving (cells s) (next s) passed (water (cells s) (next s) passed own) i
 
   unfoldable pub figures : ℕ → Figures
   figures i = cellDay (cell s i) t (soilAt st i) (snowAt st i) (inflow i)
@@ -85,7 +85,7 @@ resultsOf n figure =
       rejected = made n (λ i. figure i .rejected);
     }
 
--- sums over the cells
+-- sums over the cells; rejected recharge leaves the balance in closed depressions alone (02, M-104)
 unfoldable pub totalsOf : Setup → ℕ → (ℕ → Figures) → Totals
 totalsOf s gross figure =
     record {
@@ -93,7 +93,7 @@ totalsOf s gross figure =
       intercepted = sum (cells s) (λ i. figure i .intercepted);
       evapotranspired = sum (cells s) (λ i. figure i .evapotranspired);
       recharged = sum (cells s) (λ i. figure i .recharged);
-      rejected = sum (cells s) (λ i. figure i .rejected);
+      rejected = sum (cells s) (λ i. given (cell s i .closed?) (figure i .rejected));
       gone = sum (cells s) (λ i. given (isGone s i) (figure i .outflow));
       stored = sum (cells s) (λ i. figure i .soil + figure i .snow);
     }

@@ -38,7 +38,7 @@ use Rattle.survey.proofs.MapLaws.{slot-at}
 use Rattle.survey.proofs.CountLaws.{ways-next}
 use Rattle.covers.specs.Slots.{cellFrom}
 use Rattle.covers.specs.Plots.{plotsOf, plotFor}
-use Rattle.recharge.specs.CellDay.{goneBy}
+use Rattle.recharge.specs.CellDay.{closedBy, goneBy}
 use Rattle.records.specs.Answers.{totalsAs}
 use Rattle.recharge.specs.Totals.{totalsBy}
 use Rattle.recharge.specs.Downhill as pass
@@ -118,8 +118,8 @@ module _ (s : Setup) (st : State) (r : paper.Results) (d : Day) (before ways₀ 
   unfolding cell
   lake i h = rw (way-here i h) (sym (open-by s chart i h))
 
-  closes : (i : ℕ) → i < cells s → eqb (getD ways i 0) 4097 ≡ cell s i .closed?
-  unfolding cell
+  closes : (i : ℕ) → i < cells s → pass.closedAt ways i ≡ cell s i .closed?
+  unfolding closedBy cell
   closes i h = rw (way-here i h) (sym (closed-by s chart i h))
 
   gone-same : (i : ℕ) → i < cells s → pass.goneAt ways i ≡ paper.isGone s i
@@ -173,9 +173,9 @@ module _ (s : Setup) (st : State) (r : paper.Results) (d : Day) (before ways₀ 
       curve i k = rw is-today (days.small s st r d ok i k)
 
   -- what a cell passes on, its own water, what arrives at it, and its figures
-  passes : (j w : ℕ) → j < cells s → pass.passedAt plots slots ways (s .available) j w ≡ paper.passed s t j w
+  passes : (j w : ℕ) → j < cells s → pass.passedAt t plots slots ways (s .available) (st .soil) j w ≡ paper.passed s st t j w
   unfolding pass.passedAt paper.passed
-  passes j w h = rw (plot-here j h) (passed-plot t (cell s j) (getD ways j 0) (lake j h) (closes j h) w)
+  passes j w h = rw (plot-here j h) (passed-plot t (cell s j) (getD ways j 0) (lake j h) (closes j h) (soilAt st j) w (ok .soil j h))
 
   owns : (j : ℕ) → j < cells s → pass.ownAt t plots slots (s .available) (st .snow) j ≡ paper.own s st t j
   unfolding pass.ownAt paper.own
@@ -185,7 +185,7 @@ module _ (s : Setup) (st : State) (r : paper.Results) (d : Day) (before ways₀ 
   unfolding pass.inflowAt paper.inflow
   inflow-same i =
       rw (lent .waters, ways-point)
-      (arriving-same (cells s) (next s) (pass.passedAt plots slots ways (s .available)) (paper.passed s t)
+      (arriving-same (cells s) (next s) (pass.passedAt t plots slots ways (s .available) (st .soil)) (paper.passed s st t)
       (pass.ownAt t plots slots (s .available) (st .snow)) (paper.own s st t) passes owns i)
 
   figure-same : (i : ℕ) → i < cells s → pass.figuresAt t plots slots ways (s .available) (st .soil) (st .snow) i ≡ paper.figuresOf s st d i
@@ -194,25 +194,28 @@ module _ (s : Setup) (st : State) (r : paper.Results) (d : Day) (before ways₀ 
       rw (plot-here i h, inflow-same i) (day-plot t (cell s i) (getD ways i 0) (lake i h) (closes i h) (soilAt st i) (snowAt st i) _ (ok .soil i h) (ok .snow i h))
       ∙ ap (λ (x : Today). cellDay (cell s i) x (soilAt st i) (snowAt st i) (paper.inflow s st x i)) is-today
 
-  totals-same : (n gross : ℕ) (f : ℕ → Figures) (gone? : ℕ → Bool) → n ≡ cells s → gross ≡ d .gross → ((i : ℕ) → i < cells s → f i ≡ paper.figuresOf s st d i)
-      → ((i : ℕ) → i < cells s → gone? i ≡ paper.isGone s i) → totalsBy n gross f gone? ≡ paper.totalsOf s (d .gross) (paper.figuresOf s st d)
+  totals-same : (n gross : ℕ) (f : ℕ → Figures) (closed? gone? : ℕ → Bool) → n ≡ cells s → gross ≡ d .gross
+      → ((i : ℕ) → i < cells s → f i ≡ paper.figuresOf s st d i) → ((i : ℕ) → i < cells s → closed? i ≡ cell s i .closed?)
+      → ((i : ℕ) → i < cells s → gone? i ≡ paper.isGone s i) → totalsBy n gross f closed? gone? ≡ paper.totalsOf s (d .gross) (paper.figuresOf s st d)
   unfolding totalsBy paper.totalsOf
-  totals-same n gross f gone? count rain same left =
+  totals-same n gross f closed? gone? count rain same closed left =
       rw (count, rain)
       (λ k. record {
         gross = sum (cells s) (λ i. d .gross);
         intercepted = part (λ x. x .intercepted) k;
         evapotranspired = part (λ x. x .evapotranspired) k;
         recharged = part (λ x. x .recharged) k;
-        rejected = part (λ x. x .rejected) k;
-        gone =
-            sum-cong (cells s) (λ i. given (gone? i) (f i .outflow)) (λ i. given (paper.isGone s i) (paper.figuresOf s st d i .outflow))
-            (λ i h. ap₂ given (left i h) (ap (λ (x : Figures). x .outflow) (same i h))) k;
+        rejected = some closed? (λ i. cell s i .closed?) closed (λ x. x .rejected) k;
+        gone = some gone? (paper.isGone s) left (λ x. x .outflow) k;
         stored = part (λ x. x .soil + x .snow) k;
       })
     where
       part : (p : Figures → ℕ) → sum (cells s) (λ i. p (f i)) ≡ sum (cells s) (λ i. p (paper.figuresOf s st d i))
       part p = sum-cong (cells s) _ _ (λ i h. ap p (same i h))
+
+      some : (a b : ℕ → Bool) → ((i : ℕ) → i < cells s → a i ≡ b i) → (p : Figures → ℕ)
+          → sum (cells s) (λ i. given (a i) (p (f i))) ≡ sum (cells s) (λ i. given (b i) (p (paper.figuresOf s st d i)))
+      some a b e p = sum-cong (cells s) _ _ (λ i h. ap₂ given (e i h) (ap p (same i h)))
 
   slices-same : (n : ℕ) (f : ℕ → Figures) → n ≡ cells s → ((i : ℕ) → i < cells s → f i ≡ paper.figuresOf s st d i)
       → pass.slicesBy n f ≡ pass.slicesBy (cells s) (paper.figuresOf s st d)
@@ -266,7 +269,7 @@ module _ (s : Setup) (st : State) (r : paper.Results) (d : Day) (before ways₀ 
               recharged = (same k) .recharged;
               rejected = (same k) .rejected;
             };
-        totals = (ap totalsAs same-totals ∙ ran .summed ∙ totals-same _ _ _ _ (lent .waters) today-gross figure-same gone-same) k;
+        totals = (ap totalsAs same-totals ∙ ran .summed ∙ totals-same _ _ _ _ _ (lent .waters) today-gross figure-same closes gone-same) k;
         state = record { soil = (same k) .soil; snow = (same k) .snow; past = next k };
       })
       ∙ sym (days.accepted-is s st r d v)

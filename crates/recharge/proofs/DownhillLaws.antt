@@ -26,7 +26,7 @@ use Rattle.covers.specs.Plots.{Plot, plotBy}
 use Rattle.recharge.specs.CellDay.{figuresWith, figuresBy, CellReady, Fit32}
 use Rattle.records.specs.Answers.{totalsAs}
 use Rattle.recharge.specs.Totals.{withCell, totalsBy, Room}
-use Rattle.recharge.specs.Downhill.{plotOfCell, passedAt, ownAt, inflowAt, figuresAt, dayAt, LentAt, goneAt, Slices, Sized, Ready, Ran}
+use Rattle.recharge.specs.Downhill.{plotOfCell, passedAt, ownAt, inflowAt, figuresAt, dayAt, LentAt, closedAt, goneAt, Slices, Sized, Ready, Ran}
 use Rattle.records.specs.declared.answers.Totals.{Totals}
 use Rattle.recharge.proofs.FigureLaws.{passed-most, own-most, figures-fit}
 use Rattle.recharge.proofs.SliceLaws.{Written, stored, written-none, written-sized, written-more, written-all}
@@ -65,7 +65,7 @@ module _ {t : Today} {plots slots ways order available : List ℕ} {s₀ : Slice
   o = ready .ordered .order
 
   abbrev passed : ℕ → ℕ → ℕ
-  passed = passedAt plots slots ways available
+  passed = passedAt t plots slots ways available (s₀ .soil)
 
   abbrev own : ℕ → ℕ
   own = ownAt t plots slots available (s₀ .snow)
@@ -81,7 +81,7 @@ module _ {t : Today} {plots slots ways order available : List ℕ} {s₀ : Slice
 
   passed-keeps : (j w : ℕ) → j < n → passed j w ≤ w
   unfolding passedAt
-  passed-keeps j w h = passed-most (plot j) (getD ways j 0) w (ready .plotted j h .curve)
+  passed-keeps j w h = passed-most t (plot j) (getD ways j 0) (getD (s₀ .soil) j 0) w (ready .plotted j h .curve) (ready .held j h)
 
   own-limit : (i : ℕ) → i < n → own i ≤ 450000
   unfolding ownAt
@@ -119,7 +119,7 @@ pub record Pass (t : Today) (plots slots ways order available : List ℕ) (s₀ 
   pub within : u ≤ length available
   pub retained : f ≡ table
   pub arrivals : Arrived (passed ready) (own ready) (o ready) u arrived
-  pub summed : totals ≡ totalsBy u (t .gross) (λ v. figure ready (o ready .who v)) (λ v. goneAt ways (o ready .who v))
+  pub summed : totals ≡ totalsBy u (t .gross) (λ v. figure ready (o ready .who v)) (λ v. closedAt ways (o ready .who v)) (λ v. goneAt ways (o ready .who v))
   pub written : Written (o ready) (figure ready) s₀ u s
 
 pub pass-none : {t : Today} {plots slots ways order available : List ℕ} {s₀ : Slices} → Ready t plots slots ways order available s₀
@@ -155,7 +155,7 @@ module _
     pub pass-room : Room totals
     pass-room =
         subst Room (sym (p .summed))
-        (sums-room (t .gross) _ _ u (le-trans (p .within) (all .pointing .most)) (all .gross)
+        (sums-room (t .gross) _ _ _ u (le-trans (p .within) (all .pointing .most)) (all .gross)
         (λ k l. fits all (o all .who k) (o all .placed k (lt-of-lt-of-le l (p .within)))))
 
     pub pass-end : (r : Totals) → totalsAs r ≡ totals → length available ≤ u → Ran t plots slots ways available (s₀ .soil) (s₀ .snow) r s
@@ -164,8 +164,8 @@ module _
         record {
           summed =
               e ∙ p .summed
-              ∙ ap (λ (k : ℕ). totalsBy k (t .gross) (λ v. figure all (o all .who v)) (λ v. goneAt ways (o all .who v))) last
-              ∙ totals-along (t .gross) (figure all) (goneAt ways) (o all);
+              ∙ ap (λ (k : ℕ). totalsBy k (t .gross) (λ v. figure all (o all .who v)) (λ v. closedAt ways (o all .who v)) (λ v. goneAt ways (o all .who v))) last
+              ∙ totals-along (t .gross) (figure all) (closedAt ways) (goneAt ways) (o all);
           written = written-all (o all) (figure all) s₀ u (p .written) h;
         }
 
@@ -229,10 +229,11 @@ module _
               little all (getD ways cell 0) inside,
             )
 
-        pub pass-more : (totals' : paper.Totals) (gone : ℕ) (arrived' : List ℕ) → totals' ≡ withCell totals (t .gross) r gone
-            → gone ≡ given (goneAt ways cell) (r .outflow) → arrived' ≡ addedAt (length available) (getD ways cell 0) (r .outflow) arrived
+        pub pass-more : (totals' : paper.Totals) (left gone : ℕ) (arrived' : List ℕ) → totals' ≡ withCell totals (t .gross) r left gone
+            → left ≡ given (closedAt ways cell) (r .rejected) → gone ≡ given (goneAt ways cell) (r .outflow)
+            → arrived' ≡ addedAt (length available) (getD ways cell 0) (r .outflow) arrived
             → Pass t plots slots ways order available s₀ (u + 1) totals' f arrived' (stored s cell r)
-        pass-more totals' gone arrived' et eg ea =
+        pass-more totals' left gone arrived' et el eg ea =
             record {
               ready = all;
               within = omega arith;
@@ -241,7 +242,8 @@ module _
                   rw ea (arrived-next (passed all) (own all) (o all) (p .arrivals) h cell whose (r .outflow) (getD ways cell 0) hands points);
               summed =
                   et
-                  ∙ with-one (t .gross) (λ v. figure all (o all .who v)) (λ v. goneAt ways (o all .who v)) u gone totals r (p .summed)
-                  (is-figure ∙ ap (figure all) whose) (eg ∙ ap (λ (i : ℕ). given (goneAt ways i) (r .outflow)) whose);
+                  ∙ with-one (t .gross) (λ v. figure all (o all .who v)) (λ v. closedAt ways (o all .who v)) (λ v. goneAt ways (o all .who v)) u left gone totals r (p .summed)
+                  (is-figure ∙ ap (figure all) whose) (el ∙ ap (λ (i : ℕ). given (closedAt ways i) (r .rejected)) whose)
+                  (eg ∙ ap (λ (i : ℕ). given (goneAt ways i) (r .outflow)) whose);
               written = written-more (o all) (figure all) s₀ u (p .written) h cell whose r is-figure;
             }

@@ -15,16 +15,18 @@ use Rattle.recharge.specs.Depths.{past32}
 use Rattle.recharge.specs.CellDay.{Fit32}
 use Rattle.recharge.specs.Totals.{withCell, totalsBy, Room}
 
-module _ (gross : ℕ) (figure : ℕ → Figures) (gone? : ℕ → Bool) where
-  one-more : (i : ℕ) → withCell (totalsBy i gross figure gone?) gross (figure i) (given (gone? i) (figure i .outflow)) ≡ totalsBy (i + 1) gross figure gone?
+module _ (gross : ℕ) (figure : ℕ → Figures) (closed? gone? : ℕ → Bool) where
+  one-more : (i : ℕ) → withCell (totalsBy i gross figure closed? gone?) gross (figure i) (given (closed? i) (figure i .rejected)) (given (gone? i) (figure i .outflow))
+      ≡ totalsBy (i + 1) gross figure closed? gone?
   unfolding withCell totalsBy sum
   one-more i = rw (add-one i)
 
-  pub with-one : (i gone : ℕ) (totals : paper.Totals) (r : Figures) → totals ≡ totalsBy i gross figure gone? → r ≡ figure i → gone ≡ given (gone? i) (r .outflow)
-      → withCell totals gross r gone ≡ totalsBy (i + 1) gross figure gone?
-  with-one i gone totals r so-far e g = rw (g, so-far, e) (one-more i)
+  pub with-one : (i left gone : ℕ) (totals : paper.Totals) (r : Figures) → totals ≡ totalsBy i gross figure closed? gone? → r ≡ figure i
+      → left ≡ given (closed? i) (r .rejected) → gone ≡ given (gone? i) (r .outflow)
+      → withCell totals gross r left gone ≡ totalsBy (i + 1) gross figure closed? gone?
+  with-one i left gone totals r so-far e l g = rw (l, g, so-far, e) (one-more i)
 
-  pub sums-room : (i : ℕ) → i ≤ 4096 → gross ≤ mostGross → ((k : ℕ) → k < i → Fit32 (figure k)) → Room (totalsBy i gross figure gone?)
+  pub sums-room : (i : ℕ) → i ≤ 4096 → gross ≤ mostGross → ((k : ℕ) → k < i → Fit32 (figure k)) → Room (totalsBy i gross figure closed? gone?)
   unfolding totalsBy
   sums-room i few g small =
       record {
@@ -32,7 +34,12 @@ module _ (gross : ℕ) (figure : ℕ → Figures) (gone? : ℕ → Bool) where
         intercepted = omega (arith, sum-most i (λ k. figure k .intercepted) past32 (λ k l. omega (arith, small k l .intercepted)));
         evapotranspired = omega (arith, sum-most i (λ k. figure k .evapotranspired) past32 (λ k l. omega (arith, small k l .evapotranspired)));
         recharged = omega (arith, sum-most i (λ k. figure k .recharged) past32 (λ k l. omega (arith, small k l .recharged)));
-        rejected = omega (arith, sum-most i (λ k. figure k .rejected) past32 (λ k l. omega (arith, small k l .rejected)));
+        rejected =
+            omega (
+              arith,
+              sum-most i (λ k. given (closed? k) (figure k .rejected)) past32
+                  (λ k l. omega (arith, small k l .rejected, given-most (closed? k) (figure k .rejected))),
+            );
         gone =
             omega (
               arith,
@@ -45,7 +52,7 @@ module _ (gross : ℕ) (figure : ℕ → Figures) (gone? : ℕ → Bool) where
 
   -- in whatever order the cells come
   pub totals-along : {n : ℕ} {next : ℕ → ℕ} (order : UpslopeFirst n next)
-      → totalsBy n gross (λ u. figure (order .who u)) (λ u. gone? (order .who u)) ≡ totalsBy n gross figure gone?
+      → totalsBy n gross (λ u. figure (order .who u)) (λ u. closed? (order .who u)) (λ u. gone? (order .who u)) ≡ totalsBy n gross figure closed? gone?
   unfolding totalsBy
   totals-along {n} order =
       λ k. record {
@@ -53,7 +60,7 @@ module _ (gross : ℕ) (figure : ℕ → Figures) (gone? : ℕ → Bool) where
         intercepted = sum-along order (λ i. figure i .intercepted) k;
         evapotranspired = sum-along order (λ i. figure i .evapotranspired) k;
         recharged = sum-along order (λ i. figure i .recharged) k;
-        rejected = sum-along order (λ i. figure i .rejected) k;
+        rejected = sum-along order (λ i. given (closed? i) (figure i .rejected)) k;
         gone = sum-along order (λ i. given (gone? i) (figure i .outflow)) k;
         stored = sum-along order (λ i. figure i .soil + figure i .snow) k;
       }

@@ -1,10 +1,11 @@
--- One cell's day by its plot and its way, as the code works it out: open water needs no case but its outflow, since its soil holds nothing and
+-- One cell's day by its plot and its way, as the code works it out: open water needs no case but its runoff, since its soil holds nothing and
 -- no snow lies on it.
-use mathlib.Core.Bool.{Bool, cond, _||_}
+use mathlib.Core.Bool.{Bool, cond, not, _||_}
 use mathlib.Core.List.{List}
 use mathlib.Core.Path.{_≡_}
 use Prim.Native.Nat.{ℕ, _+_, _-_, _≤_, _<_}
 use lib.Dec.{eqb}
+use Rattle.theory.specs.Sums.{given}
 use Rattle.paper.specs.Limits.{mostGross, mostPotential, mostSnow, mostCurveNumber}
 use Rattle.paper.specs.Snow.{melt}
 use Rattle.paper.specs.Runoff.{runoff}
@@ -42,19 +43,27 @@ openWater = 4098
 unfoldable pub ownBy : Today → Plot → ℕ → ℕ
 ownBy t p snow = p .rain + melt (snow + p .snowfall) (t .meltable)
 
+-- a closed depression
+unfoldable pub closedBy : ℕ → Bool
+closedBy way = eqb way closedWay
+
 -- all of its water from open water, none from a closed depression, else what its curve number lets go
-unfoldable pub passedBy : Plot → ℕ → ℕ → ℕ
-passedBy p way w = cond (eqb way openWater) w (cond (eqb way closedWay) 0 (runoff (p .curve) w))
+unfoldable pub runoffBy : Plot → ℕ → ℕ → ℕ
+runoffBy p way w = cond (eqb way openWater) w (cond (closedBy way) 0 (runoff (p .curve) w))
 
 unfoldable pub groundBy : Today → Plot → ℕ → ℕ → ℕ → SoilDay
-groundBy t p way soil w = soilDay (p .capacity) (p .largest) soil (w - passedBy p way w) (t .potential)
+groundBy t p way soil w = soilDay (p .capacity) (p .largest) soil (w - runoffBy p way w) (t .potential)
+
+-- what is rejected runs on with the runoff, but not from a closed depression
+unfoldable pub passedBy : Today → Plot → ℕ → ℕ → ℕ → ℕ
+passedBy t p way soil w = runoffBy p way w + given (not (closedBy way)) (groundBy t p way soil w .rejected)
 
 -- the figures of a cell with that soil, that snow and water w
 unfoldable pub figuresWith : Today → Plot → ℕ → ℕ → ℕ → ℕ → Figures
 figuresWith t p way soil snow w =
     record {
       intercepted = p .intercepted;
-      outflow = passedBy p way w;
+      outflow = passedBy t p way soil w;
       evapotranspired = groundBy t p way soil w .evapotranspired;
       recharged = groundBy t p way soil w .recharged;
       rejected = groundBy t p way soil w .rejected;

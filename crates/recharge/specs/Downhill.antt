@@ -11,7 +11,7 @@ use Rattle.paper.specs.Flow.{arriving, water}
 use Rattle.survey.specs.Charts.{nextAs, WaysFit, OrderedBy}
 use Rattle.recharge.specs.Depths.{meltLimit}
 use Rattle.covers.specs.Plots.{Plot, plotBy}
-use Rattle.recharge.specs.CellDay.{ownBy, passedBy, figuresBy, goneBy, PlotFits, CellReady}
+use Rattle.recharge.specs.CellDay.{ownBy, passedBy, figuresBy, closedBy, goneBy, PlotFits, CellReady}
 use Rattle.records.specs.Answers.{totalsAs}
 use Rattle.recharge.specs.Totals.{totalsBy}
 use Rattle.records.specs.declared.answers.Totals.{Totals}
@@ -21,8 +21,8 @@ unfoldable pub plotOfCell : List ℕ → List ℕ → List ℕ → ℕ → Plot
 plotOfCell plots slots available i = plotBy plots (getD slots i 0) (getD available i 0)
 
 -- what it passes on of water w, and its own water
-unfoldable pub passedAt : List ℕ → List ℕ → List ℕ → List ℕ → ℕ → ℕ → ℕ
-passedAt plots slots ways available i w = passedBy (plotOfCell plots slots available i) (getD ways i 0) w
+unfoldable pub passedAt : Today → List ℕ → List ℕ → List ℕ → List ℕ → List ℕ → ℕ → ℕ → ℕ
+passedAt t plots slots ways available soil i w = passedBy t (plotOfCell plots slots available i) (getD ways i 0) (getD soil i 0) w
 
 unfoldable pub ownAt : Today → List ℕ → List ℕ → List ℕ → List ℕ → ℕ → ℕ
 ownAt t plots slots available snow i = ownBy t (plotOfCell plots slots available i) (getD snow i 0)
@@ -31,8 +31,8 @@ ownAt t plots slots available snow i = ownBy t (plotOfCell plots slots available
 module _ (t : Today) (plots slots ways available soil snow : List ℕ) where
   unfoldable pub inflowAt : ℕ → ℕ
   inflowAt =
-      arriving (length available) (nextAs (length available) ways) (passedAt plots slots ways available)
-      (water (length available) (nextAs (length available) ways) (passedAt plots slots ways available) (ownAt t plots slots available snow))
+      arriving (length available) (nextAs (length available) ways) (passedAt t plots slots ways available soil)
+      (water (length available) (nextAs (length available) ways) (passedAt t plots slots ways available soil) (ownAt t plots slots available snow))
 
   unfoldable pub figuresAt : ℕ → Figures
   figuresAt i = figuresBy t (plotOfCell plots slots available i) (getD ways i 0) (getD soil i 0) (getD snow i 0) (inflowAt i)
@@ -49,6 +49,9 @@ pub record LentAt (t : Today) (f plots slots available soil snow arrived : List 
   pub soils : i < length soil
   pub snows : i < length snow
   pub ready : CellReady t (plotOfCell plots slots available i) (getD soil i 0) (getD snow i 0) (getD arrived i 0) f
+
+abbrev pub closedAt : List ℕ → ℕ → Bool
+closedAt ways i = closedBy (getD ways i 0)
 
 abbrev pub goneAt : List ℕ → ℕ → Bool
 goneAt ways i = goneBy (getD ways i 0)
@@ -113,5 +116,5 @@ pub record Ready (t : Today) (plots slots ways order available : List ℕ) (s : 
 
 -- every cell's stores and results, from the stores before, and the totals summed from them
 pub record Ran (t : Today) (plots slots ways available soil snow : List ℕ) (totals : Totals) (after : Slices) : Type 0 where
-  pub summed : totalsAs totals ≡ totalsBy (length available) (t .gross) (figuresAt t plots slots ways available soil snow) (goneAt ways)
+  pub summed : totalsAs totals ≡ totalsBy (length available) (t .gross) (figuresAt t plots slots ways available soil snow) (closedAt ways) (goneAt ways)
   pub written : after ≡ slicesBy (length available) (figuresAt t plots slots ways available soil snow)

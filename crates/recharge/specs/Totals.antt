@@ -5,28 +5,28 @@ use Rattle.theory.specs.Sums.{sum, given}
 use Rattle.paper.specs.CellDay.{Figures}
 use Rattle.paper.specs.Day as paper
 
--- totals with one cell more
-unfoldable pub withCell : paper.Totals → ℕ → Figures → ℕ → paper.Totals
-withCell t gross r gone =
+-- totals with one cell more, of whose rejected recharge so much has left the balance there
+unfoldable pub withCell : paper.Totals → ℕ → Figures → ℕ → ℕ → paper.Totals
+withCell t gross r left gone =
     record {
       gross = t .gross + gross;
       intercepted = t .intercepted + r .intercepted;
       evapotranspired = t .evapotranspired + r .evapotranspired;
       recharged = t .recharged + r .recharged;
-      rejected = t .rejected + r .rejected;
+      rejected = t .rejected + left;
       gone = t .gone + gone;
       stored = t .stored + (r .soil + r .snow);
     }
 
 -- sums over n cells
-unfoldable pub totalsBy : ℕ → ℕ → (ℕ → Figures) → (ℕ → Bool) → paper.Totals
-totalsBy n gross figure gone? =
+unfoldable pub totalsBy : ℕ → ℕ → (ℕ → Figures) → (ℕ → Bool) → (ℕ → Bool) → paper.Totals
+totalsBy n gross figure closed? gone? =
     record {
       gross = sum n (λ i. gross);
       intercepted = sum n (λ i. figure i .intercepted);
       evapotranspired = sum n (λ i. figure i .evapotranspired);
       recharged = sum n (λ i. figure i .recharged);
-      rejected = sum n (λ i. figure i .rejected);
+      rejected = sum n (λ i. given (closed? i) (figure i .rejected));
       gone = sum n (λ i. given (gone? i) (figure i .outflow));
       stored = sum n (λ i. figure i .soil + figure i .snow);
     }

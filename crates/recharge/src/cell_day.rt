@@ -1,4 +1,4 @@
-// Rules 1 to 8 on one cell, once all that flows to it has arrived. Open water needs a case of its own in its outflow alone: its soil holds nothing
+// Rules 1 to 8 on one cell, once all that flows to it has arrived. Open water needs a case of its own in its runoff alone: its soil holds nothing
 // and no snow lies on it, so that every figure but what flows out is 0.
 ghost use mathlib.Core.Path.{_≡_};
 ghost use Prim.Native.Nat.{_≤_, _<_};
@@ -6,10 +6,11 @@ ghost use Rattle.paper.specs.Limits.{mostCurveNumber};
 ghost use Rattle.weather.specs.Today.{todayAs};
 ghost use Rattle.recharge.specs.Depths.{waterLimit};
 ghost use Rattle.covers.specs.Grounds.{plotAs};
-ghost use Rattle.recharge.specs.CellDay.{figuresAs, passedBy, figuresBy, CellReady};
+ghost use Rattle.recharge.specs.CellDay.{figuresAs, runoffBy, figuresBy, CellReady};
 use crate::runoff::runoff;
 use crate::soil::soil_day;
 use crate::ways::Way;
+use crate::ways::runs_on;
 use covers::Plot;
 use records::Depth;
 use retention::KNOTS;
@@ -27,10 +28,10 @@ pub(crate) struct Figures {
     pub(crate) snow: u32,
 }
 
-// What flows out of a cell: all of its water on open water, and nothing from a closed depression.
-fn passed(plot: Plot, way: Way, water: Depth) -> Depth
+// What runs off a cell: all of its water on open water, and nothing in a closed depression.
+fn runs_off(plot: Plot, way: Way, water: Depth) -> Depth
     requires { ⌜ (plotAs plot .curve ≤ mostCurveNumber) × (water .0 < waterLimit) ⌝ }
-    ensures { λ r. ⌜ r .0 ≡ passedBy (plotAs plot) (way .0) (water .0) ⌝ }
+    ensures { λ r. ⌜ r .0 ≡ runoffBy (plotAs plot) (way .0) (water .0) ⌝ }
 {
     if way.0 == Way::OPEN_WATER.0 {
         return water;
@@ -56,15 +57,17 @@ pub(crate) fn cell_day(
     let store = Depth(snow.0 + plot.snowfall.0);
     let melted = melt(store, today.meltable);
     let water = Depth(plot.rain.0 + melted.0 + arrived.0);
-    let outflow = passed(plot, way, water);
+    let surface = runs_off(plot, way, water);
     let ground = soil_day(
         f,
         plot.capacity,
         plot.largest_recharge,
         soil,
-        water.beyond(outflow),
+        water.beyond(surface),
         today.potential,
     );
+    let on = runs_on(way, ground.rejected);
+    let outflow = Depth(surface.0 + on.0);
     Figures {
         intercepted: plot.intercepted.0 as u32,
         outflow: outflow.0 as u32,

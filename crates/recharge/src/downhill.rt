@@ -10,6 +10,7 @@ use crate::totals::add_cell;
 use crate::ways::Way;
 use crate::ways::gone_from;
 use crate::ways::hand_on;
+use crate::ways::left_in;
 use covers::PLOT_ROOM;
 use covers::plot_at;
 use records::MOST_CELLS;
@@ -94,7 +95,13 @@ pub(crate) fn downhill(
         );
         let handed = day.outflow;
         hand_on(n, way, handed, &mut arrived);
-        totals = add_cell(totals, gross, day, gone_from(way, handed));
+        totals = add_cell(
+            totals,
+            gross,
+            day,
+            left_in(way, day.rejected),
+            gone_from(way, handed),
+        );
         soil[cell] = day.soil;
         snow[cell] = day.snow;
         intercepted[cell] = day.intercepted;

@@ -16,9 +16,9 @@ fn more(total: Depth, figure: u32) -> Depth
     Depth(total.0 + figure as u64)
 }
 
-pub(crate) fn add_cell(totals: Totals, gross: Depth, day: Figures, gone: u32) -> Totals
+pub(crate) fn add_cell(totals: Totals, gross: Depth, day: Figures, left: u32, gone: u32) -> Totals
     requires { ⌜ Room (totalsAs totals) × (gross .0 ≤ mostGross) ⌝ }
-    ensures { λ r. ⌜ totalsAs r ≡ withCell (totalsAs totals) (gross .0) (figuresAs day) gone ⌝ }
+    ensures { λ r. ⌜ totalsAs r ≡ withCell (totalsAs totals) (gross .0) (figuresAs day) left gone ⌝ }
 {
     let stored = totals.stored.0 + (day.soil as u64 + day.snow as u64);
     Totals {
@@ -26,7 +26,7 @@ pub(crate) fn add_cell(totals: Totals, gross: Depth, day: Figures, gone: u32) ->
         intercepted: more(totals.intercepted, day.intercepted),
         evapotranspired: more(totals.evapotranspired, day.evapotranspired),
         recharged: more(totals.recharged, day.recharged),
-        rejected: more(totals.rejected, day.rejected),
+        rejected: more(totals.rejected, left),
         gone: more(totals.gone, gone),
         stored: Depth(stored),
     }

@@ -8,7 +8,7 @@ use Rattle.theory.specs.Lists.{made}
 use Rattle.theory.specs.Lowest.{orAt, lowest, isFound, some}
 use Rattle.theory.specs.Sums.{sum, given}
 use Rattle.theory.specs.Ways.{walk, onRing}
-use Rattle.paper.specs.CellDay.{today, figureOf, interceptedOf, netOf, rainOf, storeOf, meltOf, ownOf, passedOf, openDay, groundOf, landDay, cellDay}
+use Rattle.paper.specs.CellDay.{today, figureOf, interceptedOf, netOf, rainOf, storeOf, meltOf, ownOf, runoffOf, groundOf, passedOf, openDay, landDay, cellDay}
 use Rattle.paper.specs.Covers.{entries, sizeFits, groupFits, rises, entryFits}
 use Rattle.paper.specs.CurveNumber.{class, conditionOf, nearest, curveNumber}
 use Rattle.paper.specs.Frost.{floor, orZero, frostAfter, notDry, counted}
@@ -49,5 +49,5 @@ unfolding lines bytes reading words pieces longer kept isBlank meant andThen num
 paper-read = refl
 
 pub examples-agree : Agree examples
-unfolding made orAt lowest isFound some sum given walk onRing today figureOf interceptedOf netOf rainOf storeOf meltOf ownOf passedOf openDay groundOf landDay cellDay entries sizeFits groupFits rises entryFits class conditionOf floor orZero frostAfter notDry counted nearest curveNumber checkOf freshAs freshOf passed own inflow figures isLeaving isGone resultsOf totalsOf nextState lengthsOf verdictOf figuresOf outcomeAs dayOf wayOf stepped cellAt goesBy arriving waterFrom water intercepted net excess spread runoff numberOf placeOf single judged verdict oneEach setupLengths coverPlaces coverFits mapTests setupTests stateFits tooDeep dayTests F between L loss cellsOf gridFits seasonFits setpointsFit climateFits growing placeOr entryOf cellFits isOpen goes pointed next isClosed cell fallsAsSnow aboveFreezing meltable melt surplus wetDay dryDay soilDay remembered fiveDays mostSoilOf mostSnowOf storesFit memoryFits lastFits pastFits dayFits follows freshState lines Agree examples digitsWithin digits row dayLine bytes endLine refusedLine coverCount cellCount cellsFrom daysFrom dayCount isComplete groupGiven setup dayAt refusal noResults dayText daysText freshText startText runText screen screenText numbersText formText printed isBlank longer pieces kept words isDigit allDigits spelled isFirstDigit isCount isZero number andThen meant reading code codes signed
-examples-agree = (refl, (refl, (refl, (refl, (refl, (refl, (refl, (refl, (refl, (refl, (refl, (refl, (refl, (refl, (refl, (refl, (refl, (refl, (refl, (refl, (refl, (refl, (refl, (refl, (refl, tt)))))))))))))))))))))))))
+unfolding made orAt lowest isFound some sum given walk onRing today figureOf interceptedOf netOf rainOf storeOf meltOf ownOf runoffOf groundOf passedOf openDay landDay cellDay entries sizeFits groupFits rises entryFits class conditionOf floor orZero frostAfter notDry counted nearest curveNumber checkOf freshAs freshOf passed own inflow figures isLeaving isGone resultsOf totalsOf nextState lengthsOf verdictOf figuresOf outcomeAs dayOf wayOf stepped cellAt goesBy arriving waterFrom water intercepted net excess spread runoff numberOf placeOf single judged verdict oneEach setupLengths coverPlaces coverFits mapTests setupTests stateFits tooDeep dayTests F between L loss cellsOf gridFits seasonFits setpointsFit climateFits growing placeOr entryOf cellFits isOpen goes pointed next isClosed cell fallsAsSnow aboveFreezing meltable melt surplus wetDay dryDay soilDay remembered fiveDays mostSoilOf mostSnowOf storesFit memoryFits lastFits pastFits dayFits follows freshState lines Agree examples digitsWithin digits row dayLine bytes endLine refusedLine coverCount cellCount cellsFrom daysFrom dayCount isComplete groupGiven setup dayAt refusal noResults dayText daysText freshText startText runText screen screenText numbersText formText printed isBlank longer pieces kept words isDigit allDigits spelled isFirstDigit isCount isZero number andThen meant reading code codes signed
+examples-agree = (refl, (refl, (refl, (refl, (refl, (refl, (refl, (refl, (refl, (refl, (refl, (refl, (refl, (refl, (refl, (refl, (refl, (refl, (refl, (refl, (refl, (refl, (refl, (refl, (refl, (refl, tt))))))))))))))))))))))))))

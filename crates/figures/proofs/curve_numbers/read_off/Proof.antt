@@ -5,10 +5,10 @@ use Rattle.figures.proofs.curve_numbers.read_off.Statement.{statement}
 use Rattle.figures.proofs.curve_numbers.read_off.Tie as tie
 
 abbrev Inv-loop : tie.InvT-loop
-Inv-loop outflow c₀ c = (5 ≤ c) × (c ≤ 101)
+Inv-loop runoff c₀ c = (5 ≤ c) × (c ≤ 101)
 
 abbrev μ-loop : tie.MeasureT-loop
-μ-loop outflow c₀ c = 101 - c
+μ-loop runoff c₀ c = 101 - c
 
 loop-holds : tie.Need-loop-holds Inv-loop μ-loop
 loop-holds c = (omega arith, omega arith)

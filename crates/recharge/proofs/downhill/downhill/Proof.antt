@@ -22,7 +22,7 @@ abbrev μ-loop : tie.MeasureT-loop
 
 -- from a cell's figures back to its place in the order
 abbrev turned : tie.After-add-cell Inv-loop μ-loop → tie.After-index-of Inv-loop μ-loop
-turned c = c .before .before .before .before .before .before .before .before .before .before
+turned c = c .before .before .before .before .before .before .before .before .before .before .before
 
 small : (c : tie.After-index-of Inv-loop μ-loop) → c .index-of .result < 4096
 small c = pass-small (c .before .before .before .loop .inv) (c .before .before .loop-test .taken) _ (c .index-of .ensures)
@@ -69,11 +69,14 @@ hand-on-requires c κs =
     let p = c .before .before .before .before .before .before .before .before .before .before .loop .inv in
     (p .ready .pointing .most, pass-fits p (c .before .before .before .before .before .before .before .before .before .loop-test .taken) _ (c .before .before .before .before .before .before .before .index-of .ensures) _ (c .before .day-at .ensures))
 
+left-in-requires : tie.Need-left-in-requires Inv-loop μ-loop
+left-in-requires c κs = search needs
+
 gone-from-requires : tie.Need-gone-from-requires Inv-loop μ-loop
 gone-from-requires c κs = search needs
 
 add-cell-requires : tie.Need-add-cell-requires Inv-loop μ-loop
-add-cell-requires c κs = (pass-room (c .before .before .before .before .before .before .before .before .before .before .before .before .loop .inv), c .before .before .before .before .before .before .before .before .before .before .before .before .loop .inv .ready .gross)
+add-cell-requires c κs = let p = c .before .before .before .before .before .before .before .before .before .before .before .before .before .loop .inv in (pass-room p, p .ready .gross)
 
 mul-soil : tie.Need-mul-soil Inv-loop μ-loop
 mul-soil c = omega (arith, small (turned c))
@@ -118,15 +121,16 @@ slice-write-rejected : tie.Need-slice-write-rejected Inv-loop μ-loop
 slice-write-rejected c = omega (arith, inside c, sized c .rejected)
 
 add-turn : tie.Need-add-turn Inv-loop μ-loop
-add-turn c = omega (arith, c .before .before .before .before .before .before .before .before .before .before .before .before .loop-test .taken, c .before .before .before .before .before .before .before .before .before .before .before .before .before .loop .inv .ready .pointing .most)
+add-turn c = let p = turned c in omega (arith, p .before .before .loop-test .taken, p .before .before .before .loop .inv .ready .pointing .most)
 
 loop-less : tie.Need-loop-less Inv-loop μ-loop
-loop-less c = omega (arith, c .before .before .before .before .before .before .before .before .before .before .before .before .loop-test .taken)
+loop-less c = omega (arith, turned c .before .before .loop-test .taken)
 
 loop-again : tie.Need-loop-again Inv-loop μ-loop
 loop-again c =
-    pass-more (c .before .before .before .before .before .before .before .before .before .before .before .before .before .loop .inv) (c .before .before .before .before .before .before .before .before .before .before .before .before .loop-test .taken) _ (c .before .before .before .before .before .before .before .before .before .before .index-of .ensures) _ (c .before .before .before .before .day-at .ensures) _ _ _ (c .add-cell .ensures) (c .before .gone-from .ensures)
-    (c .before .before .hand-on .ensures)
+    let p = turned c in
+    pass-more (p .before .before .before .loop .inv) (p .before .before .loop-test .taken) _ (p .index-of .ensures) _ (c .before .before .before .before .before .day-at .ensures) _ _ _ _ (c .add-cell .ensures)
+    (c .before .before .left-in .ensures) (c .before .gone-from .ensures) (c .before .before .before .hand-on .ensures)
 
 same-length : tie.Need-same-length Inv-loop μ-loop
 same-length c = let p = c .before .loop .inv in pass-sized p .soil ∙ sym (p .ready .sized .soil)
@@ -168,6 +172,7 @@ downhill-spec =
     element-copy-out-add-cell
     day-at-requires
     hand-on-requires
+    left-in-requires
     gone-from-requires
     add-cell-requires
     mul-soil
