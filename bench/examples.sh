@@ -1,6 +1,6 @@
 #!/bin/sh
-# The tables of examples/README.md on frozen ground, from the figures that the plain C has for every cell of the year: once as if
-# the ground never froze, with setpoints that no index of that year reaches, and once with the program's own.
+# The tables of examples/README.md, from the figures that the plain C has for every cell. Those on frozen ground have the year twice:
+# once as if the ground never froze, with setpoints that no index of that year reaches, and once with the program's own.
 #
 #     bench/examples.sh          checks; writes nothing outside bench/build/
 #     bench/examples.sh write    writes the tables
@@ -9,10 +9,22 @@ cd "$(dirname "$0")/.."
 . bench/tables.sh
 
 plain plain_cells
+$made/plain_cells 56000 83000 < examples/ridge.txt > $made/ridge.cells
 $made/plain_cells 2000000 2000000 < examples/year/year.txt > $made/never.cells
 $made/plain_cells 56000 83000 < examples/year/year.txt > $made/frozen.cells
 
-# What both tables read of the text and of the two runs: by serial, and of each cell on the day SHOWN.
+# The ridge and the valley on the days of rain: three cells in a row, each draining to the next, the last a closed depression. What does
+# not run off sinks in; all but the last hand on what runs off and what they reject.
+awk '
+BEGIN { split("ridge slope valley", name, " "); print "| day | cell | rain | flows in | water | runs off | sinks in | evapotranspired | fills the soil | recharged | rejected | outflow |\n|---|---|---|---|---|---|---|---|---|---|---|---|" }
+$1 == "day" { serial = $2; gross = $4 / 3; out = 0 }
+$1 == "cell" {
+    inflow = out; out = $4; rain = gross - $3; off = $2 < 2 ? out - $7 : 0
+    if (gross > 0) print "| " serial " | " name[$2 + 1] " | " rain " | " inflow " | " rain + inflow " | " off " | " rain + inflow - off " | " $5 " | " $8 - soil[$2] " | " $6 " | " $7 " | " out " |"
+    soil[$2] = $8
+}' $made/ridge.cells > $made/ridge.md
+
+# What the two tables of the year read of the text and of the two runs: by serial, and of each cell on the day SHOWN.
 # shellcheck disable=SC2016
 read_year='
 FILENAME ~ /year.txt$/ && FNR == 1 { wide = $1; high = $2; first = $3; last = $4 }
@@ -20,9 +32,9 @@ FILENAME ~ /year.txt$/ && NF == 16 { water[$1] = $2; for (k = 1; k <= 4; k++) cu
 FILENAME ~ /year.txt$/ && FNR > 1 && NF == 4 { way[cells] = $1; cover[cells] = $2; group[cells] = $3; cells++ }
 FILENAME ~ /year.txt$/ && NF == 7 { days++; day[$1] = $2; gross[$1] = $3; snows[$1] = 3 * $5 - ($6 - $4) <= 960 }
 FILENAME !~ /year.txt$/ && FNR == 1 { run++ } # 1 never frozen, 2 frozen
-$1 == "day" { serial = $2; index_of[serial] = $3; for (k = 1; k <= 3; k++) total[run, serial, k] = $(6 + k) }
+$1 == "day" { serial = $2; index_of[serial] = $3; total[run, serial, 1] = $7; total[run, serial, 2] = $9 } # recharged, gone
 $1 == "cell" && $2 == 0 && run == 2 { lies[serial] = $9 }
-$1 == "cell" && serial == shown { runoff[run, $2] = $4; recharged[run, $2] = $6; rejected[run, $2] = $7 }
+$1 == "cell" && serial == shown { runoff[run, $2] = $4 - $7; recharged[run, $2] = $6; rejected[run, $2] = $7 } # no cell of the year is a closed depression
 function by_rain(s,    sum, k, growing) { # rule 5
     for (k = s - 5; k < s; k++) sum += gross[k]
     growing = day[s] >= first && day[s] <= last
@@ -40,12 +52,12 @@ BEGIN { cells = 0; split("I II III", condition, " "); split("A B C D", letter, "
 
 # The days of March on which the two runs differ, and all days together; the snow is that of cell 0, which no cover holds back in March.
 awk -v shown=0 "$read_year"'
-function differ(s,    k, n) { for (k = 1; k <= 3; k++) n += total[1, s, k] != total[2, s, k]; return n }
-function pairs(s,    k, row) { for (k = 1; k <= 3; k++) row = row " " total[1, s, k] " | " total[2, s, k] " |"; return row }
+function differ(s,    k, n) { for (k = 1; k <= 2; k++) n += total[1, s, k] != total[2, s, k]; return n }
+function pairs(s,    k, row) { for (k = 1; k <= 2; k++) row = row " " total[1, s, k] " | " total[2, s, k] " |"; return row }
 END {
-    print "| day | falls as snow | melts | frost index | condition by the rain | counts as | recharged, never frozen | frozen | rejected, never frozen | frozen | gone, never frozen | frozen |\n|---|---|---|---|---|---|---|---|---|---|---|---|"
+    print "| day | falls as snow | melts | frost index | condition by the rain | counts as | recharged, never frozen | frozen | gone, never frozen | frozen |\n|---|---|---|---|---|---|---|---|---|---|"
     for (s = 1; s <= days; s++) {
-        for (k = 1; k <= 3; k++) { total[1, "all", k] += total[1, s, k]; total[2, "all", k] += total[2, s, k] }
+        for (k = 1; k <= 2; k++) { total[1, "all", k] += total[1, s, k]; total[2, "all", k] += total[2, s, k] }
         if (s < 60 || s > 90 || !differ(s)) continue
         fell = snows[s] ? gross[s] : 0
         printf "| %d, %d March | %.4f | %.4f | %d | %s | %s |%s\n", s, s - 59, fell / 10000, (lies[s - 1] + fell - lies[s]) / 10000, index_of[s], condition[by_rain(s)], condition[counts_as(s)], pairs(s)

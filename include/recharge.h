@@ -123,9 +123,13 @@ uint64_t recharge_fresh(uint32_t width, uint32_t height, uint32_t first, uint32_
  *                  floor(97 x index / 100) - floor(1,000 x (mean - 320) / 18), or 0 where that is negative; a floor below
  *                  zero is the whole number below. The index that the day sets decides what condition it counts as
  *   intercepted, outflow, evapotranspired, recharged, rejected
- *                  of each cell, to be written
- *   totals         7 numbers, to be written: gross, intercepted, evapotranspired, recharged, rejected, gone from the grid,
- *                  stored at the end (soil and snow)
+ *                  of each cell, to be written. On land the outflow is the runoff and what the cell rejects, which runs on
+ *                  downhill with it, and it never passes the cell's water (rain, melt and what flows in); of a closed
+ *                  depression it is 0, and what is rejected there leaves the balance. On open water it is gross precipitation
+ *                  and all that flows in
+ *   totals         7 numbers, to be written: gross, intercepted, evapotranspired, recharged, rejected in closed depressions,
+ *                  gone from the grid, stored at the end (soil and snow). What was stored before the day and gross is the
+ *                  sum of the other six
  *   serial         0 to 9,999,999, one more than the last unless there is none
  *   day_of_year    1 to 366
  *   gross          gross precipitation, 0 to 400,000

@@ -51,6 +51,7 @@ int main(void)
         return 1;
     }
     day(1, 150, 30900);
+    printf("outflow %" PRIu32 " %" PRIu32 ", rejected %" PRIu32 " %" PRIu32 "\n", outflow[0], outflow[1], rejected[0], rejected[1]);
     day(2, 151, 0);
     printf("soil %" PRIu32 " %" PRIu32 "\n", soil[0], soil[1]);
     day(2, 152, 0);

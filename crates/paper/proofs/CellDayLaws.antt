@@ -211,6 +211,13 @@ module _ (c : Cell) (t : Today) where
         (λ f. rw (passed-on soil w e f, passed-on soil' v e f)
         (add-le-add (runoff-more w v h) (ground-rises soil soil' w v p (rw (cond-false (c .open?) e) at q) h .rejected))))
 
+  -- no more is rejected than sinks in
+  pub rejected-at-most : (soil snow inflow : ℕ) → c .open? ≡ false → soil ≤ c .capacity
+      → cellDay c t soil snow inflow .rejected ≤ ownOf c t snow + inflow - runoffOf c t (ownOf c t snow + inflow)
+  unfolding landDay groundOf
+  rejected-at-most soil snow inflow e h =
+      rw (day-land soil snow inflow e) (rejected-most (c .capacity) (c .largest) soil _ (t .potential) h)
+
   -- the soil stays within its capacity, and open water keeps nothing
   pub end-soil : (soil snow inflow : ℕ) → soil ≤ mostSoilOf c → cellDay c t soil snow inflow .soil ≤ mostSoilOf c
   unfolding mostSoilOf openDay landDay groundOf

@@ -9,7 +9,8 @@ use Rattle.paper.specs.State.{State, Day, soilAt, snowAt}
 use Rattle.paper.specs.Refusals.{accepted}
 use Rattle.paper.specs.Day.{Results, Outcome, dayOf}
 
--- where a run stands: its state, the results of its last day, and what has left the soil and the snow so far
+-- where a run stands: its state, the results of its last day, and what has left the soil and the snow so far, rejected recharge as the totals
+-- count it, in closed depressions alone
 pub record Standing : Type 0 where
   pub state : State
   pub results : Results
@@ -75,7 +76,8 @@ pub record Demand3 (s : Setup) (firstStart secondStart : State) (first second : 
   pub moreRecharged : first .recharged ≤ second .recharged
   pub moreRejected : first .rejected ≤ second .rejected
   pub moreGone : first .gone ≤ second .gone
-  -- the extra water at the start is, to the last unit, the extra evapotranspired, recharged, rejected and gone so far plus the extra still stored
+  -- the extra water at the start is, to the last unit, the extra evapotranspired, recharged, rejected (in closed depressions) and gone so far plus
+  -- the extra still stored
   pub account :
       stored s secondStart - stored s firstStart
       ≡ (second .evapotranspired - first .evapotranspired)
