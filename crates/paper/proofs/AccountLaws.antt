@@ -7,7 +7,7 @@ use native.Mathlib.Omega.{arith}
 use lib.Dec.{ltb, lit≤}
 use borrow.Author.Tests.{lt-ltb, le-ltb}
 use Rattle.theory.specs.Sums.{sum, given}
-use Rattle.theory.proofs.Cases.{byCases, cond-true, cond-false}
+use Rattle.theory.proofs.Cases.{byCases, cond-true}
 use Rattle.theory.proofs.ListLaws.{made-at}
 use Rattle.theory.proofs.SumLaws.{sum-cong, sum-add}
 use Rattle.paper.specs.Limits.{mostCells}
@@ -19,7 +19,7 @@ use Rattle.paper.specs.Flow.{water}
 use Rattle.paper.specs.Refusals.{accepted}
 use Rattle.paper.specs.Day.{own, passed, inflow, figures, isGone, isLeaving, Results, totalsOf, nextState, Outcome, verdictOf, figuresOf, outcomeAs, dayOf}
 use Rattle.paper.specs.Run.{stored}
-use Rattle.paper.proofs.CellDayLaws.{cell-account, day-outflow}
+use Rattle.paper.proofs.CellDayLaws.{cell-account, day-outflow, passed-closed}
 use Rattle.paper.proofs.FlowLaws.{arriving-inside}
 use Rattle.paper.proofs.DayLaws.{SoundDay, sound-day, verdict-is, accepted-is, reached, small}
 use Rattle.paper.proofs.SetupLaws.{goes-open, to-inside}
@@ -49,10 +49,10 @@ module _ (s : Setup) (st : State) (r : Results) (d : Day) (ok : SoundDay s st r 
       day-outflow (cell s i) t (soilAt st i) (snowAt st i) (inflow s st t i) ∙ ap (passedOf (cell s i) t (soilAt st i)) (sym (reached s st r d ok i h))
 
   closed-none : (i w : ℕ) → goes s i ≡ stays → passed s st t i w ≡ 0
-  unfolding passed passedOf cell isClosed
+  unfolding passed cell isClosed
   closed-none i w g =
       byCases (isOpen s i) (λ o. absurd (open-not-stays (sym (goes-open s (ok .setup .charted) i o) ∙ g)))
-      (λ o. cond-false (isOpen s i) o _ _ ∙ cond-true (isClosed (goes s i)) (ap isClosed g) _ _)
+      (λ o. passed-closed (cell s i) t (soilAt st i) w o (ap isClosed g))
     where
       open-not-stays : openWater ≡ stays → ⊥
       open-not-stays e = let z : _≡_ {A = ℕ} 0 1 = cc in omega arith

@@ -80,7 +80,7 @@ module _ (c : Cell) (t : Today) where
   unfolding passedOf
   passed-open soil w e = cond-true (c .open?) e _ _
 
-  passed-closed : (soil w : ℕ) → c .open? ≡ false → c .closed? ≡ true → passedOf c t soil w ≡ 0
+  pub passed-closed : (soil w : ℕ) → c .open? ≡ false → c .closed? ≡ true → passedOf c t soil w ≡ 0
   unfolding passedOf
   passed-closed soil w e f = cond-false (c .open?) e _ _ ∙ cond-true (c .closed?) f _ _
 

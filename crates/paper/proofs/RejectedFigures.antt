@@ -1,5 +1,5 @@
--- The worked day of document 01 as M-104 amends it, cell by cell, as one table that computes: what cell 0 rejects runs on to cell 1, where it is
--- rejected as cell 1 is a closed depression, passed out and gone as its direction leaves the grid, or gone with the rest as it is open water.
+-- The worked day of document 01 as M-104 amends it, cell by cell, as one table that computes: what cell 0 rejects runs on to cell 1. As a closed
+-- depression that rejects it again, and it leaves the balance; where its direction leaves the grid it is passed out and gone; open water passes it off.
 use mathlib.Core.Path.{_≡_, refl}
 use mathlib.Core.List.{List, [], _∷_, _++_}
 use Prim.Native.Nat.{ℕ, _+_}

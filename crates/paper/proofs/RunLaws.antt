@@ -3,6 +3,7 @@
 -- the extra that leaves and the extra stored after. A run keeps both, day by day.
 use mathlib.Core.Path.{_≡_, refl, sym, ap, _∙_, subst}
 use mathlib.Core.List.{List, [], _∷_}
+use mathlib.Core.Bool.{Bool}
 use Prim.Native.Nat.{ℕ, zero, suc, _+_, _-_, _≤_, _<_, zero-le}
 use native.Mathlib.Nat.{le-refl, add-sub-of-le, add-le-add, not-suc-le-zero, le-of-suc-le-suc}
 use native.Mathlib.Omega.{arith}
@@ -95,11 +96,9 @@ module _ (s : Setup) (a b : State) (ra rb : Results) (d : Day) (oka : SoundDay s
       → sum (cells s) (λ i. part (f i)) ≤ sum (cells s) (λ i. part (g i))
   more-of part up = sum-le (cells s) _ _ (λ i h. up (f i) (g i) (day-rises i h))
 
-  more-rejected : sum (cells s) (λ i. given (cell s i .closed?) (f i .rejected)) ≤ sum (cells s) (λ i. given (cell s i .closed?) (g i .rejected))
-  more-rejected = sum-le (cells s) _ _ (λ i h. given-le (cell s i .closed?) (day-rises i h .rejected))
-
-  more-gone : sum (cells s) (λ i. given (isGone s i) (f i .outflow)) ≤ sum (cells s) (λ i. given (isGone s i) (g i .outflow))
-  more-gone = sum-le (cells s) _ _ (λ i h. given-le (isGone s i) (day-rises i h .outflow))
+  more-where : (counted : ℕ → Bool) (part : Figures → ℕ) → ((x y : Figures) → Rises x y → part x ≤ part y)
+      → sum (cells s) (λ i. given (counted i) (part (f i))) ≤ sum (cells s) (λ i. given (counted i) (part (g i)))
+  more-where counted part up = sum-le (cells s) _ _ (λ i h. given-le (counted i) (up (f i) (g i) (day-rises i h)))
 
   no-smaller : (part : Figures → ℕ) → ((x y : Figures) → Rises x y → part x ≤ part y)
       → NoSmaller (made (cells s) (λ i. part (f i))) (made (cells s) (λ i. part (g i)))
@@ -143,6 +142,9 @@ module _ (s : Setup) (firstStart secondStart : State) where
       let most : (part : Figures → ℕ) → ((p q : Figures) → Rises p q → part p ≤ part q)
       → sum (cells s) (λ i. part (figuresOf s (x .state) d i)) ≤ sum (cells s) (λ i. part (figuresOf s (y .state) d i))
       = more-of s (x .state) (y .state) (x .results) (y .results) d okx oky wet in
+      let some : (counted : ℕ → Bool) (part : Figures → ℕ) → ((p q : Figures) → Rises p q → part p ≤ part q)
+      → sum (cells s) (λ i. given (counted i) (part (figuresOf s (x .state) d i))) ≤ sum (cells s) (λ i. given (counted i) (part (figuresOf s (y .state) d i)))
+      = more-where s (x .state) (y .state) (x .results) (y .results) d okx oky wet in
       let all : (part : Figures → ℕ) → ((p q : Figures) → Rises p q → part p ≤ part q)
       → NoSmaller (made (cells s) (λ i. part (figuresOf s (x .state) d i))) (made (cells s) (λ i. part (figuresOf s (y .state) d i)))
       = no-smaller s (x .state) (y .state) (x .results) (y .results) d okx oky wet in
@@ -151,8 +153,8 @@ module _ (s : Setup) (firstStart secondStart : State) where
           wetter = wetter-next s (x .state) (y .state) (x .results) (y .results) d okx oky wet;
           evapotranspired = add-le-add (ahead .evapotranspired) (most (λ p. p .evapotranspired) (λ p q up. up .evapotranspired));
           recharged = add-le-add (ahead .recharged) (most (λ p. p .recharged) (λ p q up. up .recharged));
-          rejected = add-le-add (ahead .rejected) (more-rejected s (x .state) (y .state) (x .results) (y .results) d okx oky wet);
-          gone = add-le-add (ahead .gone) (more-gone s (x .state) (y .state) (x .results) (y .results) d okx oky wet);
+          rejected = add-le-add (ahead .rejected) (some (λ i. cell s i .closed?) (λ p. p .rejected) (λ p q up. up .rejected));
+          gone = add-le-add (ahead .gone) (some (isGone s) (λ p. p .outflow) (λ p q up. up .outflow));
           account =
               omega (
                 arith,
