@@ -1,5 +1,5 @@
 // An accepted day over all cells, in one pass downhill: the cell whose turn it is takes up what has arrived, its figures are written and added to
-// the totals, and what flows out of it is handed on before the next cell's turn comes.
+// the totals, and what flows out of it, rejected recharge included, is handed on before the next cell's turn comes.
 ghost use mathlib.Core.Path.{_≡_};
 ghost use Rattle.weather.specs.Today.{todayAs};
 ghost use Rattle.recharge.specs.CellDay.{figuresAs};

@@ -7,6 +7,7 @@ use crate::past::Past;
 use crate::quantities::Depth;
 use crate::verdicts::Verdict;
 
+// Sums over the cells; of what is gone and rejected, only where water leaves: over the edge and from open water, and in closed depressions.
 pub struct Totals {
     pub gross: Depth,
     pub intercepted: Depth,
