@@ -20,7 +20,7 @@ enum {
     BALANCE_MAX_COVERS = 64,
     BALANCE_ENTRY = 16,  /* numbers in one cover entry */
     BALANCE_MEMORY = 5,  /* gross precipitation of the five previous days, oldest first */
-    BALANCE_TOTALS = 7   /* gross, intercepted, evapotranspired, recharged, rejected, gone, stored */
+    BALANCE_TOTALS = 7   /* gross, intercepted, evapotranspired, recharged, rejected in closed depressions, gone, stored */
 };
 
 /* The last serial of a state that has seen no day. */

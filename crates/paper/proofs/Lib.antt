@@ -18,4 +18,4 @@ pub mod RunLaws
 pub mod StarredFigures
 pub mod EdgeFigures
 pub mod FrostFigures
-pub mod RejectedFigures
+pub mod WorkedDay

@@ -76,7 +76,7 @@ day s soil = figures s (full soil) (rain s)
 abbrev totals : Setup → ℕ → Totals
 totals s soil = totalsOf s 30900 (day s soil)
 
-pub record RejectedFigures : Type 0 where
+pub record WorkedDay : Type 0 where
   -- of its 30,000 units cell 0 lets 2,461 run off; 27,539 sink in, 2,000 evaporate, 6,000 recharge, and 19,539 are rejected
   pub runs-off : runoffOf (cell hollow 0) (rain hollow) 30000 ≡ 2461
   -- 2,461 + 19,539 run on
@@ -99,13 +99,13 @@ pub record RejectedFigures : Type 0 where
       totals lake 0
       ≡ record { gross = 61800; intercepted = 900; evapotranspired = 2000; recharged = 6000; rejected = 0; gone = 52900; stored = 50000 }
 
-pub rejected-figures : RejectedFigures
+pub worked-day : WorkedDay
 unfolding
     orAt lowest sum given entries wayOf stepped cellAt goesBy cell cellsOf growing placeOr entryOf isOpen goes pointed next isClosed fiveDays intercepted
     net fallsAsSnow aboveFreezing meltable melt class conditionOf nearest curveNumber floor orZero frostAfter notDry counted excess spread runoff surplus
     wetDay dryDay soilDay today figureOf interceptedOf netOf rainOf storeOf meltOf ownOf runoffOf groundOf passedOf openDay landDay cellDay arriving
     waterFrom water passed own inflow figures isLeaving isGone totalsOf
-rejected-figures =
+worked-day =
     record {
       runs-off = refl;
       above = refl;
