@@ -1,0 +1,28 @@
+// Standard input for the programs, whole or not at all.
+ghost use Rattle.intake.specs.Input.{Within};
+
+pub enum Input {
+    Bytes(usize),
+    Failed,
+}
+
+// Reads until the input ends or the buffer is full, and answers how many bytes stand at its front. A read that answers less than nothing has failed:
+// that is not the end, and what came before it stands for no input. It is said on standard error, as `what` and the system's words.
+pub fn read_input(what: &[u8], buffer: &mut [u8]) -> Input
+    ensures { λ r. ⌜ Within r (now (buffer .exit)) ⌝ }
+{
+    let mut done = 0;
+    while done < buffer.len() {
+        let got = libc::read(libc::STDIN_FILENO, &mut buffer[done..]);
+        if got < 0 {
+            os::fail(what);
+            return Input::Failed;
+        }
+        let more = io::count(got, &buffer[done..]);
+        if more == 0 {
+            break;
+        }
+        done += more;
+    }
+    Input::Bytes(done)
+}
