@@ -21,4 +21,4 @@ either true n = refl
 either false n = refl
 
 pub told : (input before after : List ℕ) (w : Written) (r : ℕ) → r ≡ counted w → Printed input before after w → Told input before after r
-told input before after w r e p = record { count = e ∙ ap counted (p .answer) ∙ either (ltb (length before) mostText) (length (printed input)); buffer = p .buffer }
+told input before after w r e p = record { count = e ∙ ap counted (p .answer) ∙ either (ltb (length before) mostText) (length (printed input)); buffer = p .buffer; short = p .short }

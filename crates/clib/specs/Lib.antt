@@ -1,4 +1,5 @@
 pub mod Numbers
+pub mod Given
 pub mod Handed
 pub mod Narrow
 pub mod Texts

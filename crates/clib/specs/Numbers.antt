@@ -1,10 +1,9 @@
 -- What C hands over and gets as the paper's verdict, past and totals.
-use mathlib.Core.Bool.{Bool, cond, _&&_}
+use mathlib.Core.Bool.{cond}
 use mathlib.Core.List.{List, [], _∷_}
-use mathlib.Core.Path.{_≡_}
 use Prim.Native.Nat.{ℕ, _+_, _*_}
 use lib.Dec.{eqb}
-use lib.ListN.{length, getD}
+use lib.ListN.{getD}
 use Rattle.paper.specs.State.{Memory, Last, none, serial, Past}
 use Rattle.paper.specs.Refusals.{Verdict, verdictNumber, verdictPlace}
 use Rattle.paper.specs.Day.{Totals}
@@ -31,38 +30,16 @@ memoryList m = m .oldest ∷ m .fourth ∷ m .third ∷ m .second ∷ m .yesterd
 abbrev pub noSerial : ℕ
 noSerial = 4294967295
 
-unfoldable pub lastFrom : List ℕ → Last
-lastFrom l = cond (eqb (getD l 0 0) noSerial) none (serial (getD l 0 0))
+unfoldable pub lastFrom : ℕ → Last
+lastFrom n = cond (eqb n noSerial) none (serial n)
 
 unfoldable pub lastNumber : Last → ℕ
 lastNumber none = noSerial
 lastNumber (serial n) = n
 
-unfoldable pub lastList : Last → List ℕ
-lastList last = lastNumber last ∷ []
-
--- the frost index
-unfoldable pub frostList : ℕ → List ℕ
-frostList index = index ∷ []
-
 -- what a state has besides its stores
-unfoldable pub pastFrom : List ℕ → List ℕ → List ℕ → Past
-pastFrom memory last frost = record { memory = memoryFrom memory; last = lastFrom last; frost = getD frost 0 0 }
-
--- written into slices of their own
-pub record Kept (p : Past) (memory last frost : List ℕ) : Type 0 where
-  pub memory-is : memory ≡ memoryList (p .memory)
-  pub last-is : last ≡ lastList (p .last)
-  pub frost-is : frost ≡ frostList (p .frost)
-
--- by lengths: memory five numbers, last serial and frost index one each
-abbrev pub lengthsFit : ℕ → ℕ → ℕ → Bool
-lengthsFit memory last frost = eqb memory 5 && eqb last 1 && eqb frost 1
-
-pub record Lengths (memory last frost : List ℕ) : Type 0 where
-  pub five : length memory ≡ 5
-  pub one : length last ≡ 1
-  pub index : length frost ≡ 1
+unfoldable pub pastFrom : List ℕ → ℕ → ℕ → Past
+pastFrom memory last frost = record { memory = memoryFrom memory; last = lastFrom last; frost = frost }
 
 -- in the paper's order
 unfoldable pub totalsList : Totals → List ℕ

@@ -1,28 +1,24 @@
-// The three calls for C. A slice of a fixed length is tested before all else: with another length, 2 at 0 comes back and nothing is written.
+// The three calls for C.
 ghost use mathlib.Core.Path.{_≡_};
 ghost use Rattle.paper.specs.Day.{checkOf};
 ghost use Rattle.clib.specs.Numbers.{returned};
-ghost use Rattle.clib.specs.Handed.{climateFrom, setupFrom, dayFrom, storesFrom, resultsFrom, begun, freshFrom, handed, dayGives};
+ghost use Rattle.clib.specs.Given.{setupFrom, dayFrom};
+ghost use Rattle.clib.specs.Handed.{storesFrom, resultsFrom, begun, freshGives, handed, dayGives};
+use crate::given::DayNumbers;
+use crate::given::Site;
+use crate::given::climate_of;
+use crate::given::grid_of;
+use crate::given::record_of;
 use crate::numbers::returned_as;
-use crate::state::climate_from;
-use crate::state::day_from;
-use crate::state::keep_past;
-use crate::state::lengths_fit;
+use crate::state::figures_of;
+use crate::state::index_kept;
+use crate::state::memory_kept;
 use crate::state::past_from;
-use crate::state::write_totals;
-use records::Grid;
-
-// Refusal 2 at 0.
-const LENT: u64 = 8589934592;
+use crate::state::serial_kept;
 
 #[no_mangle]
 pub extern "C" fn recharge_check(
-    width: u32,
-    height: u32,
-    first: u32,
-    last: u32,
-    first_setpoint: u32,
-    second_setpoint: u32,
+    site: Site,
     covers: &[u32],
     direction: &[u32],
     cover: &[u32],
@@ -30,21 +26,16 @@ pub extern "C" fn recharge_check(
     available: &[u32],
 ) -> u64
     ensures { λ r. ⌜ r ≡ returned (checkOf
-        (setupFrom width height (climateFrom first last «first_setpoint» «second_setpoint») (now (covers .entry)) (now (direction .entry)) (now (cover .entry)) (now (group .entry)) (now (available .entry)))) ⌝ }
+        (setupFrom site (now (covers .entry)) (now (direction .entry)) (now (cover .entry)) (now (group .entry)) (now (available .entry)))) ⌝ }
 {
-    let grid = Grid { width, height };
-    let climate = climate_from(first, last, first_setpoint, second_setpoint);
+    let grid = grid_of(site);
+    let climate = climate_of(site);
     returned_as(recharge::check(grid, climate, covers, direction, cover, group, available))
 }
 
 #[no_mangle]
 pub extern "C" fn recharge_fresh(
-    width: u32,
-    height: u32,
-    first: u32,
-    last: u32,
-    first_setpoint: u32,
-    second_setpoint: u32,
+    site: Site,
     covers: &[u32],
     direction: &[u32],
     cover: &[u32],
@@ -52,19 +43,16 @@ pub extern "C" fn recharge_fresh(
     available: &[u32],
     soil: &mut [u32],
     snow: &mut [u32],
-    memory: &mut [u32],
-    last_serial: &mut [u32],
-    frost_index: &mut [u32],
+    memory: &mut [u32; 5],
+    last_serial: &mut u32,
+    frost_index: &mut u32,
 ) -> u64
-    ensures { λ r. ⌜ begun r (now (soil .exit)) (now (snow .exit)) (now (memory .exit)) (now («last_serial» .exit)) (now («frost_index» .exit))
-        ≡ freshFrom (setupFrom width height (climateFrom first last «first_setpoint» «second_setpoint») (now (covers .entry)) (now (direction .entry)) (now (cover .entry)) (now (group .entry)) (now (available .entry)))
-        (storesFrom (now (soil .entry)) (now (snow .entry)) (now (memory .entry)) (now («last_serial» .entry)) (now («frost_index» .entry))) ⌝ }
+    ensures { λ r. ⌜ begun r (storesFrom (now (soil .exit)) (now (snow .exit)) (now (memory .exit)) (now («last_serial» .exit)) (now («frost_index» .exit)))
+        ≡ freshGives (setupFrom site (now (covers .entry)) (now (direction .entry)) (now (cover .entry)) (now (group .entry)) (now (available .entry)))
+        (now (soil .entry)) (now (snow .entry)) ⌝ }
 {
-    if !lengths_fit(memory.len(), last_serial.len(), frost_index.len()) {
-        return LENT;
-    }
-    let grid = Grid { width, height };
-    let climate = climate_from(first, last, first_setpoint, second_setpoint);
+    let grid = grid_of(site);
+    let climate = climate_of(site);
     let start = recharge::fresh(
         grid,
         climate,
@@ -76,19 +64,17 @@ pub extern "C" fn recharge_fresh(
         soil,
         snow,
     );
-    keep_past(start.past, memory, last_serial, frost_index);
+    let past = start.past;
+    *memory = memory_kept(past);
+    *last_serial = serial_kept(past);
+    *frost_index = index_kept(past);
     let verdict = start.verdict;
     returned_as(verdict)
 }
 
 #[no_mangle]
 pub extern "C" fn recharge_day(
-    width: u32,
-    height: u32,
-    first: u32,
-    last: u32,
-    first_setpoint: u32,
-    second_setpoint: u32,
+    site: Site,
     covers: &[u32],
     direction: &[u32],
     cover: &[u32],
@@ -96,46 +82,28 @@ pub extern "C" fn recharge_day(
     available: &[u32],
     soil: &mut [u32],
     snow: &mut [u32],
-    memory: &mut [u32],
-    last_serial: &mut [u32],
-    frost_index: &mut [u32],
+    memory: &mut [u32; 5],
+    last_serial: &mut u32,
+    frost_index: &mut u32,
     intercepted: &mut [u32],
     outflow: &mut [u32],
     evapotranspired: &mut [u32],
     recharged: &mut [u32],
     rejected: &mut [u32],
-    totals: &mut [u64],
-    serial: u32,
-    day_of_year: u32,
-    gross: u32,
-    minimum: i32,
-    mean: i32,
-    maximum: i32,
-    potential: u32,
+    totals: &mut [u64; 7],
+    day: DayNumbers,
 ) -> u64
     ensures { λ r. ⌜ handed r (storesFrom (now (soil .exit)) (now (snow .exit)) (now (memory .exit)) (now («last_serial» .exit)) (now («frost_index» .exit)))
         (resultsFrom (now (intercepted .exit)) (now (outflow .exit)) (now (evapotranspired .exit)) (now (recharged .exit)) (now (rejected .exit)))
         (now (totals .exit))
-        ≡ dayGives (setupFrom width height (climateFrom first last «first_setpoint» «second_setpoint») (now (covers .entry)) (now (direction .entry)) (now (cover .entry)) (now (group .entry)) (now (available .entry)))
+        ≡ dayGives (setupFrom site (now (covers .entry)) (now (direction .entry)) (now (cover .entry)) (now (group .entry)) (now (available .entry)))
         (storesFrom (now (soil .entry)) (now (snow .entry)) (now (memory .entry)) (now («last_serial» .entry)) (now («frost_index» .entry)))
         (resultsFrom (now (intercepted .entry)) (now (outflow .entry)) (now (evapotranspired .entry)) (now (recharged .entry)) (now (rejected .entry)))
-        (now (totals .entry)) (dayFrom serial «day_of_year» gross minimum mean maximum potential) ⌝ }
+        (dayFrom day) ⌝ }
 {
-    if !(lengths_fit(memory.len(), last_serial.len(), frost_index.len()) & (totals.len() == 7)) {
-        return LENT;
-    }
-    let grid = Grid { width, height };
-    let climate = climate_from(first, last, first_setpoint, second_setpoint);
-    let day = day_from(
-        serial,
-        day_of_year,
-        gross,
-        minimum,
-        mean,
-        maximum,
-        potential,
-    );
-    let past = past_from(memory, last_serial, frost_index);
+    let grid = grid_of(site);
+    let climate = climate_of(site);
+    let past = past_from(memory, *last_serial, *frost_index);
     let answer = recharge::day(
         grid,
         climate,
@@ -152,10 +120,13 @@ pub extern "C" fn recharge_day(
         recharged,
         rejected,
         past,
-        day,
+        record_of(day),
     );
-    keep_past(answer.past, memory, last_serial, frost_index);
-    write_totals(answer.totals, totals);
+    let kept = answer.past;
+    *memory = memory_kept(kept);
+    *last_serial = serial_kept(kept);
+    *frost_index = index_kept(kept);
+    *totals = figures_of(answer.totals);
     let verdict = answer.verdict;
     returned_as(verdict)
 }

@@ -1,6 +1,7 @@
-// The library for C: the three calls and the program's text over plain numbers and slices, each slice a pointer and a length. include/recharge.h
-// says them to C.
+// The library for C: the three calls and the program's text over plain numbers. What is small goes by value as a struct, a slice is a pointer and a
+// length, and what has a fixed length is a pointer. include/recharge.h says them to C.
 mod calls;
+mod given;
 mod numbers;
 mod state;
 mod texts;
@@ -8,4 +9,6 @@ mod texts;
 pub use calls::recharge_check;
 pub use calls::recharge_day;
 pub use calls::recharge_fresh;
+pub use given::DayNumbers;
+pub use given::Site;
 pub use texts::recharge_text;

@@ -1,14 +1,30 @@
-// What a call returns to C: 0 where it accepts, else the paper's number × 2^32 + its place.
+// Plain numbers and quantities, and what a call returns to C.
 ghost use mathlib.Core.Path.{_≡_};
-ghost use Prim.Native.Nat.{_≤_};
+ghost use Prim.Native.Nat.{_<_, _≤_};
 ghost use Rattle.paper.specs.Refusals.{verdictPlace};
 ghost use Rattle.records.specs.Verdicts.{verdictAs};
+ghost use Rattle.clib.specs.Narrow.{narrow};
 ghost use Rattle.clib.specs.Numbers.{returned};
+use records::Depth;
+use records::FrostIndex;
 use records::Verdict;
 use records::wide;
 
 const NUMBER: u64 = 4294967296;
 
+pub(crate) fn depth(figure: u32) -> Depth
+    ensures { λ r. ⌜ (r .0 ≡ figure) × (r .0 < narrow) ⌝ }
+{
+    Depth(figure as u64)
+}
+
+pub(crate) fn index(figure: u32) -> FrostIndex
+    ensures { λ r. ⌜ (r .0 ≡ figure) × (r .0 < narrow) ⌝ }
+{
+    FrostIndex(figure as u64)
+}
+
+// 0 where it accepts, else the paper's number × 2^32 + its place.
 pub(crate) fn returned_as(verdict: Verdict) -> u64
     requires { ⌜ verdictPlace (verdictAs verdict) ≤ 4096 ⌝ }
     ensures { λ r. ⌜ r ≡ returned (verdictAs verdict) ⌝ }

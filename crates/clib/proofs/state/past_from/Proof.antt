@@ -6,7 +6,7 @@ use Rattle.clib.proofs.state.past_from.Tie as tie
 
 returns : tie.Need-returns
 unfolding pastFrom
-returns c = (cc, record { memory = c .before .before .memory-from .ensures .1; frost = c .frost-from .ensures .1 })
+returns c = (cc, record { memory = c .before .before .memory-from .ensures .1; frost = c .index .ensures .1 })
 
 pub past-from-spec : {M : Type 1} → statement M
 past-from-spec = tie.close (tie.spec (λ c κs. search needs) (λ c κs. search needs) (λ c κs. search needs) returns)
