@@ -12,8 +12,7 @@
 #ifndef BALANCE_H
 #define BALANCE_H
 
-#include <stddef.h>
-#include <stdint.h>
+#include "../include/recharge.h" /* the structs that are handed over, and the header's own limits */
 
 enum {
     BALANCE_MAX_CELLS = 4096,
@@ -26,40 +25,31 @@ enum {
 /* The last serial of a state that has seen no day. */
 #define BALANCE_NO_SERIAL UINT32_MAX
 
-/* The setup: first and last growing day; the frost index's setpoints; covers holds 16 numbers an
- * entry (code, open water, four curve numbers, four largest recharges, growing and dormant
- * interception, four root depths); covers_len counts the numbers, not the entries. The other four
- * hold one number a cell. */
-#define BALANCE_SETUP_PARAMETERS                                    \
-    uint32_t width, uint32_t height, uint32_t first, uint32_t last, \
-    uint32_t first_setpoint, uint32_t second_setpoint,              \
-    const uint32_t *covers, size_t covers_len,                      \
-    const uint32_t *direction, size_t direction_len,                \
-    const uint32_t *cover, size_t cover_len,                        \
-    const uint32_t *group, size_t group_len,                        \
+/* The setup: covers holds 16 numbers an entry (code, open water, four curve numbers, four largest
+ * recharges, growing and dormant interception, four root depths); covers_len counts the numbers, not
+ * the entries. The other four hold one number a cell. */
+#define BALANCE_SETUP_PARAMETERS                     \
+    struct recharge_site site,                       \
+    const uint32_t *covers, size_t covers_len,       \
+    const uint32_t *direction, size_t direction_len, \
+    const uint32_t *cover, size_t cover_len,         \
+    const uint32_t *group, size_t group_len,         \
     const uint32_t *water, size_t water_len
 
-/* The state: soil and snow hold one number a cell, memory 5, last_serial and frost_index 1. */
-#define BALANCE_STATE_PARAMETERS                    \
-    uint32_t *soil, size_t soil_len,                \
-    uint32_t *snow, size_t snow_len,                \
-    uint32_t *memory, size_t memory_len,            \
-    uint32_t *last_serial, size_t last_serial_len,  \
-    uint32_t *frost_index, size_t frost_index_len
+/* The state: soil and snow hold one number a cell. */
+#define BALANCE_STATE_PARAMETERS     \
+    uint32_t *soil, size_t soil_len, \
+    uint32_t *snow, size_t snow_len, \
+    uint32_t memory[BALANCE_MEMORY], uint32_t *last_serial, uint32_t *frost_index
 
-/* What a day gives back for each cell, and its 7 totals. */
+/* What a day gives back for each cell, and its totals. */
 #define BALANCE_RESULT_PARAMETERS                       \
     uint32_t *intercepted, size_t intercepted_len,      \
     uint32_t *outflow, size_t outflow_len,              \
     uint32_t *evapotranspired, size_t evapotranspired_len, \
     uint32_t *recharged, size_t recharged_len,          \
     uint32_t *rejected, size_t rejected_len,            \
-    uint64_t *totals, size_t totals_len
-
-/* The day record. */
-#define BALANCE_DAY_PARAMETERS                               \
-    uint32_t serial, uint32_t day_of_year, uint32_t gross,   \
-    int32_t minimum, int32_t mean, int32_t maximum, uint32_t potential
+    uint64_t totals[BALANCE_TOTALS]
 
 /* Tests 1 to 6. */
 typedef uint64_t balance_check(BALANCE_SETUP_PARAMETERS);
@@ -69,12 +59,9 @@ typedef uint64_t balance_check(BALANCE_SETUP_PARAMETERS);
 typedef uint64_t balance_fresh(BALANCE_SETUP_PARAMETERS, BALANCE_STATE_PARAMETERS);
 
 /* Tests 1 to 10, then one day. memory, last_serial and frost_index are read, and written when the
- * day is accepted. Refused: the totals are zeros and nothing else is changed.
- *
- * In both, a memory, last serial, frost index or totals of another length is 2 at 0, before test 1,
- * and nothing is written: there is nowhere to put an answer. */
+ * day is accepted. Refused: the totals are zeros and nothing else is changed. */
 typedef uint64_t balance_day(BALANCE_SETUP_PARAMETERS, BALANCE_STATE_PARAMETERS,
-                             BALANCE_RESULT_PARAMETERS, BALANCE_DAY_PARAMETERS);
+                             BALANCE_RESULT_PARAMETERS, struct recharge_day_record day);
 
 balance_check plain_check, fast_check;
 balance_fresh plain_fresh, fast_fresh;

@@ -11,7 +11,6 @@ enum {
     CASE_ROOM = BALANCE_MAX_CELLS + 8, /* behind each slice, so that lengths may be a little off */
     CASE_COVERS = (BALANCE_MAX_COVERS + 2) * BALANCE_ENTRY,
     CASE_SLICES = 7,        /* soil, snow and the five results */
-    CASE_FIXED = 4,         /* memory, last serial, frost index and totals */
     CASE_TEXT_ROOM = 400000 /* bytes that are enough for every text made here */
 };
 
@@ -33,17 +32,6 @@ struct state_case {
     uint32_t soil[CASE_ROOM], snow[CASE_ROOM];
     uint32_t memory[BALANCE_MEMORY], last_serial, frost_index;
     size_t len[CASE_SLICES];
-    size_t fixed_len[CASE_FIXED]; /* of the slices with a length of their own */
-};
-
-/* Which these are, and the lengths that they must have. */
-enum { F_MEMORY, F_LAST_SERIAL, F_FROST_INDEX, F_TOTALS };
-extern const size_t fixed_lengths[CASE_FIXED];
-
-struct day_case {
-    uint32_t serial, day_of_year, gross;
-    int32_t minimum, mean, maximum;
-    uint32_t potential;
 };
 
 /* Where the numbers of a cover entry stand. */
@@ -65,7 +53,7 @@ uint32_t case_capacity(const struct grid_case *g, uint32_t cell);
 enum { CASE_LEAVES = -1, CASE_STAYS = -2 };
 int32_t case_next(const struct grid_case *g, uint32_t cell);
 /* Does what falls that day fall as snow? */
-bool case_snows(const struct day_case *d);
+bool case_snows(const struct recharge_day_record *d);
 /* What a day of this maximum melts of any store (M-100). */
 uint32_t case_melt(int32_t maximum);
 /* The frost index that a day of this mean temperature sets (M-106). */
@@ -76,28 +64,27 @@ uint32_t case_frost(uint32_t index, int32_t mean);
 void make_grid(struct grid_case *g);
 void make_setpoints(struct grid_case *g);
 void make_state(const struct grid_case *g, struct state_case *s);
-void make_day(const struct grid_case *g, const struct state_case *s, struct day_case *d);
+void make_day(const struct grid_case *g, const struct state_case *s, struct recharge_day_record *d);
 
 /* On a day without snowfall: gives a cell the snow that the day melts, or a unit less or more. */
-void aim_melt(const struct grid_case *g, struct state_case *s, const struct day_case *d);
+void aim_melt(const struct grid_case *g, struct state_case *s, const struct recharge_day_record *d);
 
 /* Moves a setpoint to where the day will set the frost index, or to one beside it. */
-void aim_setpoint(struct grid_case *g, const struct state_case *s, const struct day_case *d);
+void aim_setpoint(struct grid_case *g, const struct state_case *s, const struct recharge_day_record *d);
 
 /* A dry day of one closed cell, aimed at the joints of rule 8: potential evapotranspiration
  * about k/256 of the capacity, often at the end of the table, where few soils tell its last two
  * entries apart. */
-void make_dry(struct grid_case *g, struct state_case *s, struct day_case *d);
+void make_dry(struct grid_case *g, struct state_case *s, struct recharge_day_record *d);
 
 /* Damage, or something just short of it, to valid cases. Each returns what the check (or the
  * day) must then return: 0, a refusal, or UNSURE (cases_damage_grid.c, cases_damage_call.c). */
 uint64_t damage_grid(struct grid_case *g);
-uint64_t damage_call(const struct grid_case *g, struct state_case *s, struct day_case *d);
+uint64_t damage_call(const struct grid_case *g, struct state_case *s, struct recharge_day_record *d);
 
-/* A wrong length for one of the first so many slices of one number a cell, or of those with a length
- * of their own. A fresh state is lent 2 and 3 of them. */
-enum { FRESH_SLICES = 2, FRESH_FIXED = 3 };
-uint64_t damage_length_of(struct state_case *s, uint32_t cells, unsigned slices, unsigned fixed);
+/* A wrong length for one of the first so many slices of one number a cell. A fresh state is lent 2. */
+enum { FRESH_SLICES = 2 };
+uint64_t damage_length_of(struct state_case *s, uint32_t cells, unsigned slices);
 
 /* A text for the program (cases_text.c): nearly valid or damaged; or a valid one of a winter whose
  * frost comes and goes. Each returns its length. */

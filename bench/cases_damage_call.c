@@ -1,7 +1,7 @@
 /* Damage to the state and the day of a call: tests 2 and 7 to 10. */
 #include "cases_parts.h"
 
-static uint64_t damage_day(struct day_case *d)
+static uint64_t damage_day(struct recharge_day_record *d)
 {
     static const uint32_t serials[] = {10000000, 10000001, 1u << 31, ~0u};
     static const uint32_t days[] = {0, 367, 368, 366 + 65536, 1u << 31, ~0u};
@@ -41,7 +41,7 @@ static uint64_t damage_day(struct day_case *d)
     return refusal(7, 0);
 }
 
-static uint64_t damage_serial(struct state_case *s, struct day_case *d)
+static uint64_t damage_serial(struct state_case *s, struct recharge_day_record *d)
 {
     static const uint32_t strange[] = {9999999, 10000000, 10000001, 1u << 31, ~0u - 1, ~0u - 2};
 
@@ -101,7 +101,7 @@ static uint64_t damage_state(const struct grid_case *g, struct state_case *s)
 }
 
 /* A store at the limit: snowfall takes it there or one past it. */
-static uint64_t damage_snow(const struct grid_case *g, struct state_case *s, struct day_case *d)
+static uint64_t damage_snow(const struct grid_case *g, struct state_case *s, struct recharge_day_record *d)
 {
     uint32_t lowest = g->cells;
     bool growing = g->first <= d->day_of_year && d->day_of_year <= g->last;
@@ -129,23 +129,18 @@ static uint64_t damage_snow(const struct grid_case *g, struct state_case *s, str
     return lowest == g->cells ? 0 : refusal(10, lowest);
 }
 
-uint64_t damage_length_of(struct state_case *s, uint32_t cells, unsigned slices, unsigned fixed)
+uint64_t damage_length_of(struct state_case *s, uint32_t cells, unsigned slices)
 {
-    if (chance(50)) {
-        uint64_t which = below(slices);
-        s->len[which] = wrong_length(cells);
-    } else {
-        uint64_t which = below(fixed);
-        const size_t right = fixed_lengths[which], wrong[] = {0, right - 1, right + 1};
-        s->fixed_len[which] = ONE_OF(wrong);
-    }
+    uint64_t which = below(slices);
+
+    s->len[which] = wrong_length(cells);
     return refusal(2, 0);
 }
 
-uint64_t damage_call(const struct grid_case *g, struct state_case *s, struct day_case *d)
+uint64_t damage_call(const struct grid_case *g, struct state_case *s, struct recharge_day_record *d)
 {
     switch (below(10)) {
-    case 0: return damage_length_of(s, g->cells, CASE_SLICES, CASE_FIXED);
+    case 0: return damage_length_of(s, g->cells, CASE_SLICES);
     case 1:
     case 2: return damage_day(d);
     case 3: return damage_serial(s, d);

@@ -21,8 +21,6 @@ static void make_memory(uint32_t *memory)
     memory[b] = swap;
 }
 
-const size_t fixed_lengths[CASE_FIXED] = {BALANCE_MEMORY, 1, 1, BALANCE_TOTALS};
-
 void make_state(const struct grid_case *g, struct state_case *s)
 {
     unsigned full = (unsigned)below(100), bare = (unsigned)below(100);
@@ -38,11 +36,9 @@ void make_state(const struct grid_case *g, struct state_case *s)
     s->frost_index = make_frost_index(g);
     for (int i = 0; i < CASE_SLICES; i++)
         s->len[i] = g->cells;
-    for (int i = 0; i < CASE_FIXED; i++)
-        s->fixed_len[i] = fixed_lengths[i];
 }
 
-static void make_temperatures(struct day_case *d)
+static void make_temperatures(struct recharge_day_record *d)
 {
     int64_t low, high, mean;
 
@@ -83,7 +79,7 @@ static void make_temperatures(struct day_case *d)
     d->mean = (int32_t)(mean < low ? low : mean > high ? high : mean);
 }
 
-void make_day(const struct grid_case *g, const struct state_case *s, struct day_case *d)
+void make_day(const struct grid_case *g, const struct state_case *s, struct recharge_day_record *d)
 {
     d->serial = s->last_serial == BALANCE_NO_SERIAL ? edgy32(0, 9999980) : s->last_serial + 1;
     switch (below(5)) { /* often at an end of the season */
@@ -101,7 +97,7 @@ void make_day(const struct grid_case *g, const struct state_case *s, struct day_
     d->potential = chance(50) ? edgy32(0, 20000) : (uint32_t)between(0, 3000);
 }
 
-bool case_snows(const struct day_case *d)
+bool case_snows(const struct recharge_day_record *d)
 {
     return 3 * d->mean - (d->maximum - d->minimum) <= 960;
 }
@@ -113,7 +109,7 @@ uint32_t case_melt(int32_t maximum)
     return maximum > 320 ? 150000 * (uint32_t)(maximum - 320) / (18 * 254) : 0;
 }
 
-void aim_melt(const struct grid_case *g, struct state_case *s, const struct day_case *d)
+void aim_melt(const struct grid_case *g, struct state_case *s, const struct recharge_day_record *d)
 {
     uint32_t cell = (uint32_t)below(g->cells), most = case_melt(d->maximum);
 
@@ -121,7 +117,7 @@ void aim_melt(const struct grid_case *g, struct state_case *s, const struct day_
         s->snow[cell] = most - 1 + (uint32_t)below(3);
 }
 
-void make_dry(struct grid_case *g, struct state_case *s, struct day_case *d)
+void make_dry(struct grid_case *g, struct state_case *s, struct recharge_day_record *d)
 {
     do
         make_grid(g);

@@ -42,7 +42,7 @@ uint32_t make_frost_index(const struct grid_case *g)
     }
 }
 
-void aim_setpoint(struct grid_case *g, const struct state_case *s, const struct day_case *d)
+void aim_setpoint(struct grid_case *g, const struct state_case *s, const struct recharge_day_record *d)
 {
     uint32_t aim = case_frost(s->frost_index, d->mean) + (uint32_t)below(3);
 

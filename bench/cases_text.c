@@ -41,7 +41,7 @@ static void list_grid(struct listing *l, const struct grid_case *g)
     l->days_at = l->count;
 }
 
-static void list_day(struct listing *l, const struct day_case *d)
+static void list_day(struct listing *l, const struct recharge_day_record *d)
 {
     add(l, d->serial);
     add(l, d->day_of_year);
@@ -55,7 +55,7 @@ static void list_day(struct listing *l, const struct day_case *d)
 static void list_days(struct listing *l, const struct grid_case *g)
 {
     static struct state_case s;
-    struct day_case d;
+    struct recharge_day_record d;
     bool long_winter = chance(8); /* snow upon snow, to the limit of the store */
     uint32_t days = long_winter ? 30 : chance(10) ? 0 : (uint32_t)between(1, 10);
 
@@ -118,7 +118,7 @@ static int32_t winter_mean(uint32_t index)
 static void list_winter(struct listing *l, const struct grid_case *g, uint64_t *hits)
 {
     static struct state_case s;
-    struct day_case d;
+    struct recharge_day_record d;
 
     s.last_serial = BALANCE_NO_SERIAL;
     s.frost_index = 0;

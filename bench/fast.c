@@ -19,33 +19,29 @@ uint64_t fast_check(BALANCE_SETUP_PARAMETERS)
 {
     struct routes r;
 
-    if (bad_size(width, height))
+    if (bad_size(site))
         return REFUSE(1, 0);
-    const size_t cells = width * height;
+    const size_t cells = site.width * site.height;
     if (direction_len != cells || cover_len != cells || group_len != cells || water_len != cells)
         return REFUSE(2, 0);
-    return check_setup(width, height, first, last, first_setpoint, second_setpoint, covers,
-                       covers_len, direction, cover, group, water, &r);
+    return check_setup(site, covers, covers_len, direction, cover, group, water, &r);
 }
 
 uint64_t fast_fresh(BALANCE_SETUP_PARAMETERS, BALANCE_STATE_PARAMETERS)
 {
     struct routes r;
 
-    if (memory_len != BALANCE_MEMORY || last_serial_len != 1 || frost_index_len != 1)
-        return REFUSE(2, 0);
     memset(memory, 0, BALANCE_MEMORY * sizeof memory[0]);
-    last_serial[0] = BALANCE_NO_SERIAL;
-    frost_index[0] = 0;
+    *last_serial = BALANCE_NO_SERIAL;
+    *frost_index = 0;
 
-    if (bad_size(width, height))
+    if (bad_size(site))
         return REFUSE(1, 0);
-    const size_t cells = width * height;
+    const size_t cells = site.width * site.height;
     if (direction_len != cells || cover_len != cells || group_len != cells ||
         water_len != cells || soil_len != cells || snow_len != cells)
         return REFUSE(2, 0);
-    const uint64_t no = check_setup(width, height, first, last, first_setpoint, second_setpoint,
-                                    covers, covers_len, direction, cover, group, water, &r);
+    const uint64_t no = check_setup(site, covers, covers_len, direction, cover, group, water, &r);
     if (no != 0)
         return no;
 
@@ -60,54 +56,51 @@ uint64_t fast_fresh(BALANCE_SETUP_PARAMETERS, BALANCE_STATE_PARAMETERS)
 /* ---------------------------------------------------------------- the day */
 
 /* Test 7. */
-static bool bad_day(BALANCE_DAY_PARAMETERS)
+static bool bad_day(struct recharge_day_record d)
 {
-    return serial > MAX_SERIAL || day_of_year - 1 > 365 || gross > MAX_GROSS ||
-           minimum < -1000 || minimum > mean || mean > maximum || maximum > 1500 ||
-           potential > 20000;
+    return d.serial > MAX_SERIAL || d.day_of_year - 1 > 365 || d.gross > MAX_GROSS ||
+           d.minimum < -1000 || d.minimum > d.mean || d.mean > d.maximum || d.maximum > 1500 ||
+           d.potential > 20000;
 }
 
 uint64_t fast_day(BALANCE_SETUP_PARAMETERS, BALANCE_STATE_PARAMETERS,
-                  BALANCE_RESULT_PARAMETERS, BALANCE_DAY_PARAMETERS)
+                  BALANCE_RESULT_PARAMETERS, struct recharge_day_record day)
 {
     struct routes r;
     struct plot plots[PLOTS];
     uint32_t capacity[CELLS], inflow[TARGETS];
 
-    if (memory_len != BALANCE_MEMORY || last_serial_len != 1 || frost_index_len != 1 ||
-        totals_len != BALANCE_TOTALS)
-        return REFUSE(2, 0);
     memset(totals, 0, BALANCE_TOTALS * sizeof totals[0]);
 
-    if (bad_size(width, height))
+    if (bad_size(site))
         return REFUSE(1, 0);
-    const uint32_t cells = width * height;
+    const uint32_t cells = site.width * site.height;
     if (direction_len != cells || cover_len != cells || group_len != cells ||
         water_len != cells || soil_len != cells || snow_len != cells ||
         intercepted_len != cells || outflow_len != cells || evapotranspired_len != cells ||
         recharged_len != cells || rejected_len != cells)
         return REFUSE(2, 0);
-    const uint64_t no = check_setup(width, height, first, last, first_setpoint, second_setpoint,
-                                    covers, covers_len, direction, cover, group, water, &r);
+    const uint64_t no = check_setup(site, covers, covers_len, direction, cover, group, water, &r);
     if (no != 0)
         return no;
-    if (bad_day(serial, day_of_year, gross, minimum, mean, maximum, potential))
+    if (bad_day(day))
         return REFUSE(7, 0);
     /* No serial that passed test 7 is 0 after a last serial of 2^32 - 1: that is none. */
-    if (last_serial[0] != BALANCE_NO_SERIAL && serial != last_serial[0] + 1)
+    if (*last_serial != BALANCE_NO_SERIAL && day.serial != *last_serial + 1)
         return REFUSE(8, 0);
 
-    const bool growing = first <= day_of_year && day_of_year <= last;
-    const bool snows = 3 * mean - (maximum - minimum) <= 960;
-    const uint32_t most_melt = maximum > 320 ? 12500 * (uint32_t)(maximum - 320) / 381 : 0;
+    const uint32_t gross = day.gross, potential = day.potential;
+    const bool growing = site.first_growing <= day.day_of_year && day.day_of_year <= site.last_growing;
+    const bool snows = 3 * day.mean - (day.maximum - day.minimum) <= 960;
+    const uint32_t most_melt = day.maximum > 320 ? 12500 * (uint32_t)(day.maximum - 320) / 381 : 0;
     uint64_t sum = 0;
-    bool bad_past = frost_index[0] > MAX_FROST;
+    bool bad_past = *frost_index > MAX_FROST;
     for (int i = 0; i < BALANCE_MEMORY; i++) {
         sum += memory[i];
         bad_past |= memory[i] > MAX_GROSS;
     }
-    const uint32_t frost = frost_after(frost_index[0], mean);
-    const int condition = condition_of(sum, growing, frost, first_setpoint, second_setpoint);
+    const uint32_t frost = frost_after(*frost_index, day.mean);
+    const int condition = condition_of(sum, growing, frost, site);
     plan_plots(covers, covers_len, growing, condition, snows, gross, plots);
 
     /* Tests 9 and 10, before anything is written. Any 9 wins over a 10. The last serial has
@@ -196,7 +189,7 @@ uint64_t fast_day(BALANCE_SETUP_PARAMETERS, BALANCE_STATE_PARAMETERS,
     totals[6] = stored;
     memmove(memory, memory + 1, (BALANCE_MEMORY - 1) * sizeof memory[0]);
     memory[BALANCE_MEMORY - 1] = gross;
-    last_serial[0] = serial;
-    frost_index[0] = frost;
+    *last_serial = day.serial;
+    *frost_index = frost;
     return 0;
 }

@@ -20,12 +20,11 @@ static uint32_t frost_after(uint32_t index, int32_t mean)
 }
 
 /* Rule 5's condition with M-106's: what the day counts as, 1 to 3. */
-static int condition_of(uint64_t sum, bool growing, uint32_t frost, uint32_t first_setpoint,
-                        uint32_t second_setpoint)
+static int condition_of(uint64_t sum, bool growing, uint32_t frost, struct recharge_site site)
 {
-    if (frost >= second_setpoint || sum > (growing ? 21000 : 11000))
+    if (frost >= site.second_setpoint || sum > (growing ? 21000 : 11000))
         return 3;
-    return frost < first_setpoint && sum < (growing ? 14000 : 5000) ? 1 : 2;
+    return frost < site.first_setpoint && sum < (growing ? 14000 : 5000) ? 1 : 2;
 }
 
 /* All that cells of one cover and group share on a day. Open water has zeros here, so that

@@ -123,35 +123,35 @@ static uint64_t order_cells(uint32_t cells, struct routes *r, uint16_t *waiting)
 }
 
 /* Tests 3 to 6. */
-static uint64_t check_setup(uint32_t width, uint32_t height, uint32_t first, uint32_t last,
-                            uint32_t first_setpoint, uint32_t second_setpoint,
-                            const uint32_t *covers, size_t covers_len,
+static uint64_t check_setup(struct recharge_site site, const uint32_t *covers, size_t covers_len,
                             const uint32_t *direction, const uint32_t *cover,
                             const uint32_t *group, const uint32_t *water, struct routes *r)
 {
     uint8_t index[256];
     uint16_t waiting[TARGETS];
-    const uint32_t cells = width * height;
+    const uint32_t cells = site.width * site.height;
     uint64_t no;
 
     if ((no = index_covers(covers, covers_len, index)) != 0)
         return no;
     memset(waiting, 0, cells * sizeof waiting[0]);
     memset(waiting + OVER_EDGE, 0, (TARGETS - OVER_EDGE) * sizeof waiting[0]);
-    no = read_cells(width, height, covers, index, direction, cover, group, water, r, waiting);
+    no = read_cells(site.width, site.height, covers, index, direction, cover, group, water, r,
+                    waiting);
     if (no != 0)
         return no;
     if ((no = order_cells(cells, r, waiting)) != 0)
         return no;
-    const bool bad = first == 0 || first > last || last > 366 || first_setpoint > second_setpoint ||
-                     second_setpoint > 2000000;
+    const bool bad = site.first_growing == 0 || site.first_growing > site.last_growing ||
+                     site.last_growing > 366 || site.first_setpoint > site.second_setpoint ||
+                     site.second_setpoint > 2000000;
     return bad ? REFUSE(6, 0) : 0;
 }
 
 /* Test 1. */
-static bool bad_size(uint32_t width, uint32_t height)
+static bool bad_size(struct recharge_site site)
 {
-    return width - 1 >= CELLS || height - 1 >= CELLS || width * height > CELLS;
+    return site.width - 1 >= CELLS || site.height - 1 >= CELLS || site.width * site.height > CELLS;
 }
 
 #endif

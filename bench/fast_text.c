@@ -93,7 +93,7 @@ size_t fast_text(const unsigned char *in, size_t n, unsigned char *out, size_t r
 {
     static uint32_t numbers[TEXT_LONGEST / 2 + 1];
     static uint32_t direction[CELLS], cover[CELLS], group[CELLS], water[CELLS];
-    static uint32_t soil[CELLS], snow[CELLS], memory[BALANCE_MEMORY], last[1], frost[1];
+    static uint32_t soil[CELLS], snow[CELLS], memory[BALANCE_MEMORY], last, frost;
     static uint32_t result[5][CELLS];
     static uint64_t totals[BALANCE_TOTALS];
     unsigned char *to = out;
@@ -122,9 +122,12 @@ size_t fast_text(const unsigned char *in, size_t n, unsigned char *out, size_t r
     if (no != 0)
         return (size_t)(append_refusal(to, no) - out);
 
-    const uint32_t w = (uint32_t)width, h = (uint32_t)height;
+    const struct recharge_site site = {.width = (uint32_t)width, .height = (uint32_t)height,
+                                       .first_growing = numbers[2], .last_growing = numbers[3],
+                                       .first_setpoint = TEXT_FIRST_SETPOINT,
+                                       .second_setpoint = TEXT_SECOND_SETPOINT};
     const uint32_t *covers = numbers + 5;
-    const size_t covers_len = 16 * entries, cells = w * h;
+    const size_t covers_len = 16 * entries, cells = site.width * site.height;
     const uint32_t *cell = covers + covers_len;
     size_t negative = cells; /* the lowest cell with a negative direction */
     for (size_t i = 0; i < cells; i++, cell += 4) {
@@ -136,9 +139,8 @@ size_t fast_text(const unsigned char *in, size_t n, unsigned char *out, size_t r
             negative = i;
     }
 
-    no = fast_fresh(w, h, numbers[2], numbers[3], TEXT_FIRST_SETPOINT, TEXT_SECOND_SETPOINT,
-                    covers, covers_len, direction, cells, cover, cells, group, cells, water, cells,
-                    soil, cells, snow, cells, memory, BALANCE_MEMORY, last, 1, frost, 1);
+    no = fast_fresh(site, covers, covers_len, direction, cells, cover, cells, group, cells, water,
+                    cells, soil, cells, snow, cells, memory, &last, &frost);
     /* A negative direction is a 4 that the library does not know of: it gives way to any 1, 2
      * or 3 and to a 4 at a lower cell. */
     if (negative != cells && (no == 0 || no > refuse(4, negative)))
@@ -146,12 +148,12 @@ size_t fast_text(const unsigned char *in, size_t n, unsigned char *out, size_t r
 
     const uint32_t *day = cell;
     for (; no == 0 && day != numbers + count; day += 7) {
-        no = fast_day(w, h, numbers[2], numbers[3], TEXT_FIRST_SETPOINT, TEXT_SECOND_SETPOINT,
-                      covers, covers_len, direction, cells, cover, cells, group, cells, water,
-                      cells, soil, cells, snow, cells, memory, BALANCE_MEMORY, last, 1, frost, 1,
-                      result[0], cells, result[1], cells, result[2], cells, result[3], cells,
-                      result[4], cells, totals, BALANCE_TOTALS, day[0], day[1], day[2],
-                      (int32_t)day[3], (int32_t)day[4], (int32_t)day[5], day[6]);
+        const struct recharge_day_record record = {day[0], day[1], day[2], (int32_t)day[3],
+                                                   (int32_t)day[4], (int32_t)day[5], day[6]};
+        no = fast_day(site, covers, covers_len, direction, cells, cover, cells, group, cells, water,
+                      cells, soil, cells, snow, cells, memory, &last, &frost, result[0], cells,
+                      result[1], cells, result[2], cells, result[3], cells, result[4], cells,
+                      totals, record);
         if (no != 0)
             break;
         assert((size_t)(to - out) + LONGEST_LINE <= room);

@@ -80,15 +80,15 @@ uint64_t run(const struct implementation *x, struct one_cell *c)
     const uint32_t n = c->curve, r = c->root;
     const uint32_t covers[16] = {3, 0, n, n, n, n, 100000, 100000, 100000, 100000, 0, 0, r, r, r, r};
     const uint32_t direction[1] = {1}, cover[1] = {3}, group[1] = {2}, water[1] = {c->water};
-    uint32_t memory[5] = {c->five_day_sum, 0, 0, 0, 0}, last[1] = {BALANCE_NO_SERIAL};
+    const struct recharge_site site = {1, 1, 100, 200, TEXT_FIRST_SETPOINT, TEXT_SECOND_SETPOINT};
+    const struct recharge_day_record day = {1, 150, c->gross, c->minimum, c->mean, c->maximum, c->potential};
+    uint32_t memory[5] = {c->five_day_sum, 0, 0, 0, 0}, last = BALANCE_NO_SERIAL;
     uint32_t intercepted[1], recharged[1], rejected[1];
     uint64_t totals[7];
 
-    return x->day(1, 1, 100, 200, TEXT_FIRST_SETPOINT, TEXT_SECOND_SETPOINT, covers, 16, direction,
-                  1, cover, 1, group, 1, water, 1, &c->soil, 1, &c->snow, 1, memory, 5, last, 1,
-                  &c->frost_index, 1, intercepted, 1, &c->outflow, 1, &c->evapotranspired, 1,
-                  recharged, 1, rejected, 1, totals, 7, 1, 150, c->gross, c->minimum, c->mean,
-                  c->maximum, c->potential);
+    return x->day(site, covers, 16, direction, 1, cover, 1, group, 1, water, 1, &c->soil, 1, &c->snow, 1,
+                  memory, &last, &c->frost_index, intercepted, 1, &c->outflow, 1,
+                  &c->evapotranspired, 1, recharged, 1, rejected, 1, totals, day);
 }
 
 /* The runoff of so much rain on a warm growing day: the outflow of a cell whose soil has room for

@@ -25,7 +25,7 @@
 static void run_days(struct grid_case *g, struct state_case *s)
 {
     static struct state_case spoilt;
-    struct day_case day, spoilt_day;
+    struct recharge_day_record day, spoilt_day;
 
     for (uint64_t days = 1 + below(7); days > 0; days--) {
         make_day(g, s, &day);
@@ -55,7 +55,7 @@ static void run_case(uint64_t seed)
 {
     static struct grid_case g, spoilt;
     static struct state_case s;
-    struct day_case day;
+    struct recharge_day_record day;
 
     set_current("case", seed);
     start_random(seed);
@@ -98,7 +98,7 @@ static void run_case(uint64_t seed)
     if (chance(10)) { /* refusal 2 of the fresh state */
         static struct state_case lent;
         lent = s;
-        all_fresh(&g, &lent, damage_length_of(&lent, g.cells, FRESH_SLICES, FRESH_FIXED));
+        all_fresh(&g, &lent, damage_length_of(&lent, g.cells, FRESH_SLICES));
     }
     all_fresh(&g, &s, 0);
     if (chance(30))
@@ -156,8 +156,6 @@ int main(int argc, char **argv)
         reached_often("fresh", tally.fresh, 6, cases);
         reached_often("day", tally.day, 10, cases);
         reached_often("text", tally.text, 11, text_cases);
-        for (int i = 0; i < CASE_FIXED; i++)
-            enough("a slice with a length of its own had another", tally.fixed[i], cases);
         rejected_often(cases);
         melt_often(cases);
         frost_often(cases);

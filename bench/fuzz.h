@@ -14,7 +14,6 @@ struct tally {
     uint64_t cell_days, pairs, pair_days, frosty_pair_days, wetter_figures, more_runs_on, text_days, winters, winter_hits;
     uint32_t most_outflow;
     uint64_t foretold;
-    uint64_t fixed[CASE_FIXED]; /* calls lent memory, last serial, frost index or totals of another length */
 };
 extern struct tally tally;
 
@@ -60,13 +59,13 @@ void copy_world(struct world *to, const struct world *from, uint32_t reach);
  * `before`. */
 uint64_t all_check(const struct grid_case *g, uint64_t foretold);
 uint64_t all_fresh(const struct grid_case *g, const struct state_case *s, uint64_t foretold);
-uint64_t all_day(const struct grid_case *g, const struct state_case *s, const struct day_case *d,
+uint64_t all_day(const struct grid_case *g, const struct state_case *s, const struct recharge_day_record *d,
                  uint64_t foretold);
 
 /* ---------------------------------------------------------------- accepted days: fuzz_account.c */
 
 /* Holds an accepted day, in worlds[0], against the account: of each cell, and of the totals. */
-void check_account(const struct grid_case *g, const struct day_case *d);
+void check_account(const struct grid_case *g, const struct recharge_day_record *d);
 
 /* Takes the state over that came back in worlds[0]. */
 void take_state(const struct grid_case *g, struct state_case *s);
@@ -74,7 +73,7 @@ void take_state(const struct grid_case *g, struct state_case *s);
 /* ---------------------------------------------------------------- rejected recharge: fuzz_rejected.c */
 
 /* Holds the outflow and the rejected recharge of each cell of an accepted day, in worlds[0], to M-104, and counts where that went. */
-void check_rejected(const struct grid_case *g, const struct day_case *d, const uint64_t *inflow);
+void check_rejected(const struct grid_case *g, const struct recharge_day_record *d, const uint64_t *inflow);
 
 void report_rejected(void);
 void rejected_often(uint64_t cases);
@@ -82,7 +81,7 @@ void rejected_often(uint64_t cases);
 /* ---------------------------------------------------------------- melt: fuzz_melt.c */
 
 /* Holds the snow of an accepted day, in worlds[0], to rule 3 with M-100's rate, and counts where the rate had a say. */
-void check_melt(const struct grid_case *g, const struct day_case *d);
+void check_melt(const struct grid_case *g, const struct recharge_day_record *d);
 
 void report_melt(void);
 void melt_often(uint64_t cases);
@@ -90,7 +89,7 @@ void melt_often(uint64_t cases);
 /* ---------------------------------------------------------------- frozen ground: fuzz_frost.c */
 
 /* Holds the frost index of an accepted day, in worlds[0], to M-106, and counts what the frost did. */
-void check_frost(const struct grid_case *g, const struct day_case *d);
+void check_frost(const struct grid_case *g, const struct recharge_day_record *d);
 
 /* Counts the refusals that frost alone explains: 6 by the setpoints, 9 by the index. */
 void count_setpoints(const struct grid_case *g, uint64_t returned);

@@ -4,7 +4,7 @@
 #include <inttypes.h>
 #include <string.h>
 
-void check_account(const struct grid_case *g, const struct day_case *d)
+void check_account(const struct grid_case *g, const struct recharge_day_record *d)
 {
     static uint64_t inflow[CASE_ROOM];
     const struct world *w = &worlds[0];

@@ -91,32 +91,23 @@ static void same_returned(const char *call, const uint64_t *returned, uint64_t f
 
 /* ---------------------------------------------------------------- the calls, by all */
 
-#define SETUP_OF(g)                                                                           \
-    (g)->width, (g)->height, (g)->first, (g)->last, (g)->first_setpoint, (g)->second_setpoint, \
-        (g)->covers, (g)->covers_len, (g)->direction, (g)->direction_len, (g)->cover,         \
+#define SETUP_OF(g)                                                                             \
+    site_of(g), (g)->covers, (g)->covers_len, (g)->direction, (g)->direction_len, (g)->cover,   \
         (g)->cover_len, (g)->group, (g)->group_len, (g)->water, (g)->water_len
-#define STATE_OF(w, s)                                                                        \
-    (w)->slice[SOIL], (s)->len[SOIL], (w)->slice[SNOW], (s)->len[SNOW], (w)->memory,          \
-        (s)->fixed_len[F_MEMORY], (w)->last_serial, (s)->fixed_len[F_LAST_SERIAL],            \
-        (w)->frost_index, (s)->fixed_len[F_FROST_INDEX]
+#define STATE_OF(w, s)                                                                          \
+    (w)->slice[SOIL], (s)->len[SOIL], (w)->slice[SNOW], (s)->len[SNOW], (w)->memory,            \
+        (w)->last_serial, (w)->frost_index
 #define RESULTS_OF(w, s)                                                                      \
     (w)->slice[INTERCEPTED], (s)->len[INTERCEPTED], (w)->slice[OUTFLOW], (s)->len[OUTFLOW],   \
         (w)->slice[EVAPOTRANSPIRED], (s)->len[EVAPOTRANSPIRED], (w)->slice[RECHARGED],        \
-        (s)->len[RECHARGED], (w)->slice[REJECTED], (s)->len[REJECTED], (w)->totals,           \
-        (s)->fixed_len[F_TOTALS]
+        (s)->len[RECHARGED], (w)->slice[REJECTED], (s)->len[REJECTED], (w)->totals
 
-/* Have the first so many slices with a length of their own that length? If not, refusal 2 is
- * foretold, before all else, and nothing may be written. */
-static bool right_lengths(const struct state_case *s, int count, uint64_t *foretold)
+static struct recharge_site site_of(const struct grid_case *g)
 {
-    for (int i = 0; i < count; i++) {
-        if (s->fixed_len[i] == fixed_lengths[i])
-            continue;
-        tally.fixed[i]++;
-        *foretold = (uint64_t)2 << 32;
-        return false;
-    }
-    return true;
+    return (struct recharge_site){.width = g->width, .height = g->height,
+                                  .first_growing = g->first, .last_growing = g->last,
+                                  .first_setpoint = g->first_setpoint,
+                                  .second_setpoint = g->second_setpoint};
 }
 
 uint64_t all_check(const struct grid_case *g, uint64_t foretold)
@@ -141,15 +132,12 @@ uint64_t all_fresh(const struct grid_case *g, const struct state_case *s, uint64
         copy_world(&worlds[x], &before, reach);
         returned[x] = implementations[x].fresh(SETUP_OF(g), STATE_OF(&worlds[x], s));
     }
-    bool right = right_lengths(s, FRESH_FIXED, &foretold);
     same_returned("fresh", returned, foretold);
     count_refusal(tally.fresh, returned[0]);
 
-    if (right) { /* refused or not */
-        memset(before.memory, 0, BALANCE_MEMORY * sizeof before.memory[0]);
-        before.last_serial[0] = BALANCE_NO_SERIAL;
-        before.frost_index[0] = 0;
-    }
+    memset(before.memory, 0, BALANCE_MEMORY * sizeof before.memory[0]); /* refused or not */
+    before.last_serial[0] = BALANCE_NO_SERIAL;
+    before.frost_index[0] = 0;
     if (returned[0] == 0) {
         for (uint32_t i = 0; i < g->cells; i++) {
             before.slice[SOIL][i] = case_capacity(g, i);
@@ -161,7 +149,7 @@ uint64_t all_fresh(const struct grid_case *g, const struct state_case *s, uint64
     return returned[0];
 }
 
-uint64_t all_day(const struct grid_case *g, const struct state_case *s, const struct day_case *d,
+uint64_t all_day(const struct grid_case *g, const struct state_case *s, const struct recharge_day_record *d,
                  uint64_t foretold)
 {
     uint64_t returned[MOST_IMPLEMENTATIONS] = {0};
@@ -171,17 +159,13 @@ uint64_t all_day(const struct grid_case *g, const struct state_case *s, const st
     for (size_t x = 0; x < implementations_count; x++) {
         copy_world(&worlds[x], &before, reach);
         returned[x] = implementations[x].day(SETUP_OF(g), STATE_OF(&worlds[x], s),
-                                             RESULTS_OF(&worlds[x], s), d->serial,
-                                             d->day_of_year, d->gross, d->minimum, d->mean,
-                                             d->maximum, d->potential);
+                                             RESULTS_OF(&worlds[x], s), *d);
     }
-    bool right = right_lengths(s, CASE_FIXED, &foretold);
     same_returned("day", returned, foretold);
     count_refusal(tally.day, returned[0]);
     count_index(g, s, returned[0]);
     if (returned[0] != 0) { /* all alone, but for zeros in the totals */
-        if (right)
-            memset(before.totals, 0, BALANCE_TOTALS * sizeof before.totals[0]);
+        memset(before.totals, 0, BALANCE_TOTALS * sizeof before.totals[0]);
         for (size_t x = 0; x < implementations_count; x++)
             same_world("refused day", implementations[x].name, &worlds[x], "it was lent", &before,
                        reach);

@@ -63,9 +63,6 @@ void report(uint64_t cases, uint64_t text_cases, uint64_t seed, double case_time
                i == 0 ? "  (0: accepted; places are the library's)" : "");
     }
     printf("\nreturns that were foretold and so: %" PRIu64 "\n", tally.foretold);
-    printf("refused for the length of the memory: %" PRIu64 ", the last serial: %" PRIu64 ", the frost index: %" PRIu64
-           ", the totals: %" PRIu64 "\n",
-           tally.fixed[F_MEMORY], tally.fixed[F_LAST_SERIAL], tally.fixed[F_FROST_INDEX], tally.fixed[F_TOTALS]);
     printf("cells of accepted days held against the account: %" PRIu64 "\n", tally.cell_days);
     printf("largest outflow seen: %" PRIu32 "\n", tally.most_outflow);
     printf("pairs of runs: %" PRIu64 ", of %" PRIu64 " days, %" PRIu64 " of them at or above the first setpoint, with %" PRIu64

@@ -17,7 +17,7 @@ static struct {
 } frost;
 
 /* Rule 5's condition, 1 to 3, before the frost has its say. */
-static int antecedent(const struct grid_case *g, const struct day_case *d)
+static int antecedent(const struct grid_case *g, const struct recharge_day_record *d)
 {
     bool growing = g->first <= d->day_of_year && d->day_of_year <= g->last;
     uint64_t sum = 0;
@@ -38,7 +38,7 @@ static bool runs_off(const struct grid_case *g)
     return false;
 }
 
-void check_frost(const struct grid_case *g, const struct day_case *d)
+void check_frost(const struct grid_case *g, const struct recharge_day_record *d)
 {
     const uint32_t index = worlds[0].frost_index[0], wanted = case_frost(before.frost_index[0], d->mean);
     const uint32_t setpoints[SETPOINTS] = {g->first_setpoint, g->second_setpoint};

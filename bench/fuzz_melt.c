@@ -12,7 +12,7 @@ static struct {
     uint64_t at, above, hottest;  /* with snow, on a day of maximum 320; 321; 1,500 */
 } melt;
 
-void check_melt(const struct grid_case *g, const struct day_case *d)
+void check_melt(const struct grid_case *g, const struct recharge_day_record *d)
 {
     const bool snows = case_snows(d);
     const uint32_t most = case_melt(d->maximum);

@@ -7,7 +7,7 @@ void run_pair(struct grid_case *g, struct state_case *less, unsigned wetter)
 {
     static struct state_case more;
     static struct world first;
-    struct day_case day;
+    struct recharge_day_record day;
     int64_t extra = 0, came_out = 0;
 
     more = *less;

@@ -12,7 +12,7 @@ static struct {
     uint64_t whole;                        /* that passed all of their water on, by runoff in part only */
 } rejected;
 
-static uint64_t rejected_by_rule_7(const struct grid_case *g, const struct day_case *d, uint32_t cell, uint64_t infiltration)
+static uint64_t rejected_by_rule_7(const struct grid_case *g, const struct recharge_day_record *d, uint32_t cell, uint64_t infiltration)
 {
     const uint32_t largest = case_entry(g, cell)[E_RECHARGE + g->group[cell] - 1];
     const uint64_t filled = before.slice[SOIL][cell] + infiltration;
@@ -36,7 +36,7 @@ static void follow(const struct grid_case *g, uint32_t cell, bool *rejected_abov
     rejected.left += next == CASE_STAYS;
 }
 
-void check_rejected(const struct grid_case *g, const struct day_case *d, const uint64_t *inflow)
+void check_rejected(const struct grid_case *g, const struct recharge_day_record *d, const uint64_t *inflow)
 {
     static bool rejected_above[CASE_ROOM];
     const struct world *w = &worlds[0];

@@ -57,11 +57,13 @@ linked "$own" clang
 chmod +x "$work/kit/$own/clang"
 RATTLE_HOME=$work/kit rt staticlib "$crate" >"$work/log" 2>&1 || { cat "$work/log" >&2; exit 1; }
 
-# The module as text, without the other processor's name and layout, compiled for this one.
+# The module as text, without the other processor's name and layout, compiled for this one. On x86-64 a struct of more than 16 bytes goes
+# on the stack, which the module says by `byval`; Arm's C hands over the address of a copy, which is the same module without that word.
 clang=$kit/$own/clang
 "$clang" --target=x86_64-unknown-linux-gnu -x ir "$work/module.bc" -O0 -Xclang -disable-llvm-passes -S -emit-llvm \
     -o "$work/module.ll"
 sed -e '/^target datalayout/d' -e "s/^target triple.*/target triple = \"$machine-unknown-linux-gnu\"/" \
     -e 's/"target-cpu"="x86-64"//' "$work/module.ll" >"$work/own.ll"
+[ "$machine" = x86_64 ] || sed -i 's/byval([^)]*) //g' "$work/own.ll"
 "$clang" --target="$machine-unknown-linux-gnu" -O3 -x ir "$work/own.ll" -c -o "$work/own.o"
 keep "$work/own.o"

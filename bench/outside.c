@@ -78,13 +78,14 @@ static void refused(const size_t *len, const uint32_t *state)
     static const uint32_t covers[16] = {3, 0, 75, 75, 75, 75, 0, 0, 0, 0, 0, 0, 250, 250, 250, 250};
     static const uint32_t direction[3] = {1, 0, 0}, cover[2] = {3, 3}, group[2] = {2, 2}, water[2] = {200, 200};
     uint32_t soil[3] = {state[0], state[1], 0}, snow[2] = {0, state[2]};
-    uint32_t memory[5] = {0, 0, 0, 0, state[3]}, last[1] = {BALANCE_NO_SERIAL}, frost_index[1] = {state[4]};
+    uint32_t memory[5] = {0, 0, 0, 0, state[3]}, last = BALANCE_NO_SERIAL, frost_index = state[4];
     uint32_t intercepted[2], outflow[2], evapotranspired[2], recharged[2], rejected[3];
     uint64_t totals[7];
-    uint64_t no = plain_day(2, 1, 100, 200, TEXT_FIRST_SETPOINT, TEXT_SECOND_SETPOINT, covers, 16, direction, len[0],
-                            cover, 2, group, 2, water, 2, soil, len[1], snow, 2, memory, 5, last, 1, frost_index, 1,
-                            intercepted, 2, outflow, 2, evapotranspired, 2, recharged, 2, rejected, len[2], totals, 7,
-                            1, 150, 0, 600, 700, 800, 0);
+    const struct recharge_site site = {2, 1, 100, 200, TEXT_FIRST_SETPOINT, TEXT_SECOND_SETPOINT};
+    const struct recharge_day_record day = {1, 150, 0, 600, 700, 800, 0};
+    uint64_t no = plain_day(site, covers, 16, direction, len[0], cover, 2, group, 2, water, 2, soil, len[1], snow, 2,
+                            memory, &last, &frost_index, intercepted, 2, outflow, 2, evapotranspired, 2, recharged, 2,
+                            rejected, len[2], totals, day);
 
     printf("refused %" PRIu64 " %" PRIu64 "\n", no >> 32, no & UINT32_MAX);
 }

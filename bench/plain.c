@@ -17,11 +17,9 @@ uint64_t plain_fresh(BALANCE_SETUP_PARAMETERS, BALANCE_STATE_PARAMETERS)
     struct setup s = GIVEN_SETUP;
     const size_t others[] = {soil_len, snow_len};
 
-    if (memory_len != BALANCE_MEMORY || last_serial_len != 1 || frost_index_len != 1)
-        return refusal(2, 0); /* nowhere to put an answer */
     memset(memory, 0, BALANCE_MEMORY * sizeof memory[0]); /* refused or not */
-    last_serial[0] = BALANCE_NO_SERIAL;
-    frost_index[0] = 0;
+    *last_serial = BALANCE_NO_SERIAL;
+    *frost_index = 0;
 
     uint64_t no = plain_tests_1_to_6(&s, others, 2);
     if (no != 0)
@@ -45,7 +43,7 @@ static uint32_t steps_to_the_end(const struct way *ways, uint32_t cell)
 }
 
 /* Rule 5's condition as M-106 amends it: what the day counts as. */
-static enum plain_condition condition_today(const struct setup *s, const struct day *day,
+static enum plain_condition condition_today(const struct setup *s, const struct recharge_day_record *day,
                                             const uint32_t *memory, uint32_t frost_index)
 {
     int64_t five_day_sum = 0; /* the five previous days: today is not yet among them */
@@ -53,32 +51,28 @@ static enum plain_condition condition_today(const struct setup *s, const struct 
     for (int i = 0; i < BALANCE_MEMORY; i++)
         five_day_sum += memory[i];
     return plain_counts_as(plain_antecedent(five_day_sum, is_growing(s, day->day_of_year)),
-                           frost_index, s->first_setpoint, s->second_setpoint);
+                           frost_index, s->site.first_setpoint, s->site.second_setpoint);
 }
 
 uint64_t plain_day(BALANCE_SETUP_PARAMETERS, BALANCE_STATE_PARAMETERS,
-                   BALANCE_RESULT_PARAMETERS, BALANCE_DAY_PARAMETERS)
+                   BALANCE_RESULT_PARAMETERS, struct recharge_day_record day)
 {
     struct setup s = GIVEN_SETUP;
-    const struct day day = {serial, day_of_year, gross, minimum, mean, maximum, potential};
     const size_t others[] = {soil_len, snow_len, intercepted_len, outflow_len,
                              evapotranspired_len, recharged_len, rejected_len};
 
-    if (memory_len != BALANCE_MEMORY || last_serial_len != 1 || frost_index_len != 1 ||
-        totals_len != BALANCE_TOTALS)
-        return refusal(2, 0); /* nowhere to put an answer */
     memset(totals, 0, BALANCE_TOTALS * sizeof totals[0]);
 
     uint64_t no;
     if ((no = plain_tests_1_to_6(&s, others, 7)) != 0) return no;
     if ((no = plain_test_7(&day)) != 0) return no;
-    if ((no = plain_test_8(&day, last_serial[0])) != 0) return no;
-    if ((no = plain_test_9(&s, soil, snow, memory, last_serial[0], frost_index[0])) != 0) return no;
+    if ((no = plain_test_8(&day, *last_serial)) != 0) return no;
+    if ((no = plain_test_9(&s, soil, snow, memory, *last_serial, *frost_index)) != 0) return no;
     if ((no = plain_test_10(&s, &day, snow)) != 0) return no;
 
     /* The frost index first: the one that today sets decides today's condition. */
-    frost_index[0] = (uint32_t)plain_frost(frost_index[0], mean);
-    enum plain_condition condition = condition_today(&s, &day, memory, frost_index[0]);
+    *frost_index = (uint32_t)plain_frost(*frost_index, day.mean);
+    enum plain_condition condition = condition_today(&s, &day, memory, *frost_index);
 
     uint32_t cells = cell_count(&s);
     struct way ways[BALANCE_MAX_CELLS];
@@ -113,7 +107,7 @@ uint64_t plain_day(BALANCE_SETUP_PARAMETERS, BALANCE_STATE_PARAMETERS,
 
     /* Totals: sums over the cells; of what is rejected, closed depressions alone (M-104). */
     for (uint32_t cell = 0; cell < cells; cell++) {
-        totals[0] += gross;
+        totals[0] += day.gross;
         totals[1] += intercepted[cell];
         totals[2] += evapotranspired[cell];
         totals[3] += recharged[cell];
@@ -127,7 +121,7 @@ uint64_t plain_day(BALANCE_SETUP_PARAMETERS, BALANCE_STATE_PARAMETERS,
     /* The next memory: the oldest figure dropped, today's added. */
     for (int i = 0; i + 1 < BALANCE_MEMORY; i++)
         memory[i] = memory[i + 1];
-    memory[BALANCE_MEMORY - 1] = gross;
-    last_serial[0] = serial;
+    memory[BALANCE_MEMORY - 1] = day.gross;
+    *last_serial = day.serial;
     return 0;
 }

@@ -21,19 +21,16 @@ enum { SLICES = 7, SOIL = 5, SNOW = 6 }; /* the five results in their order, the
 static uint32_t covers[BALANCE_MAX_COVERS * BALANCE_ENTRY];
 static uint32_t ground[4][BALANCE_MAX_CELLS]; /* direction, cover, group, water */
 static uint32_t slice[SLICES][BALANCE_MAX_CELLS];
-static uint32_t memory[BALANCE_MEMORY], last_serial[1], frost_index[1];
+static uint32_t memory[BALANCE_MEMORY], last_serial, frost_index;
 static uint64_t totals[BALANCE_TOTALS];
-static uint32_t width, height, first, last, setpoints[2];
+static struct recharge_site site;
 static size_t covers_len, cells;
 
 #define SETUP                                                                              \
-    width, height, first, last, setpoints[0], setpoints[1], covers, covers_len, ground[0], \
-        cells, ground[1], cells, ground[2], cells, ground[3], cells
-#define STATE                                                                                 \
-    slice[SOIL], cells, slice[SNOW], cells, memory, BALANCE_MEMORY, last_serial, 1, frost_index, 1
-#define RESULTS                                                                       \
-    slice[0], cells, slice[1], cells, slice[2], cells, slice[3], cells, slice[4], cells, \
-        totals, BALANCE_TOTALS
+    site, covers, covers_len, ground[0], cells, ground[1], cells, ground[2], cells, ground[3], cells
+#define STATE slice[SOIL], cells, slice[SNOW], cells, memory, &last_serial, &frost_index
+#define RESULTS \
+    slice[0], cells, slice[1], cells, slice[2], cells, slice[3], cells, slice[4], cells, totals
 
 static void accepted(uint64_t returned)
 {
@@ -60,11 +57,12 @@ static uint32_t number(void)
 
 static void read_setup(void)
 {
-    width = number(), height = number(), first = number(), last = number();
+    site.width = number(), site.height = number();
+    site.first_growing = number(), site.last_growing = number();
     covers_len = (size_t)number() * BALANCE_ENTRY;
-    if (width * height > BALANCE_MAX_CELLS || covers_len > sizeof covers / sizeof covers[0])
+    if (site.width * site.height > BALANCE_MAX_CELLS || covers_len > sizeof covers / sizeof covers[0])
         exit(1);
-    cells = width * height;
+    cells = site.width * site.height;
     for (size_t i = 0; i < covers_len; i++)
         covers[i] = number();
     for (size_t i = 0; i < cells; i++)
@@ -74,7 +72,7 @@ static void read_setup(void)
 
 static void print_day(void)
 {
-    printf("day %" PRIu32 " %" PRIu32, last_serial[0], frost_index[0]);
+    printf("day %" PRIu32 " %" PRIu32, last_serial, frost_index);
     for (int i = 0; i < BALANCE_TOTALS; i++)
         printf(" %" PRIu64, totals[i]);
     for (size_t i = 0; i < cells; i++) {
@@ -91,15 +89,15 @@ int main(int argc, char **argv)
 
     if (argc != 3)
         return 2;
-    for (int i = 0; i < 2; i++)
-        setpoints[i] = (uint32_t)strtoul(argv[1 + i], NULL, 10);
+    site.first_setpoint = (uint32_t)strtoul(argv[1], NULL, 10);
+    site.second_setpoint = (uint32_t)strtoul(argv[2], NULL, 10);
     read_setup();
     accepted(plain_fresh(SETUP, STATE));
     while (next(&d[0])) {
         for (int i = 1; i < 7; i++)
             d[i] = (int32_t)number();
-        accepted(plain_day(SETUP, STATE, RESULTS, (uint32_t)d[0], (uint32_t)d[1], (uint32_t)d[2], d[3], d[4], d[5],
-                           (uint32_t)d[6]));
+        const struct recharge_day_record day = {(uint32_t)d[0], (uint32_t)d[1], (uint32_t)d[2], d[3], d[4], d[5], (uint32_t)d[6]};
+        accepted(plain_day(SETUP, STATE, RESULTS, day));
         print_day();
     }
     return 0;

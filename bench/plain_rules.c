@@ -21,7 +21,7 @@ int64_t plain_interception(int64_t gross, int64_t figure)
     return smaller(gross, figure);
 }
 
-int64_t plain_interception_of(const struct setup *s, const struct day *day, uint32_t cell)
+int64_t plain_interception_of(const struct setup *s, const struct recharge_day_record *day, uint32_t cell)
 {
     int row = is_growing(s, day->day_of_year) ? GROWING : DORMANT;
     return plain_interception(day->gross, entry_of(s, cell)[row]);
@@ -168,7 +168,7 @@ static void soil_rules(struct cell_day *c, int64_t n, int64_t e, int64_t capacit
 }
 
 /* Rules 1 to 8. inflow is the sum of the outflows of all cells pointing here. */
-struct cell_day plain_cell_rules(const struct setup *s, const struct day *day,
+struct cell_day plain_cell_rules(const struct setup *s, const struct recharge_day_record *day,
                                  enum plain_condition condition, uint32_t cell, struct way way,
                                  int64_t inflow, int64_t soil, int64_t snow)
 {

@@ -1,4 +1,4 @@
-/* The setup and the day record as the plain C holds them, with what a cell has of its cover and
+/* The setup as the plain C holds it, with what a cell has of its cover and
  * where it points: static functions for the tests, the rules and the day. */
 #ifndef PLAIN_SETUP_H
 #define PLAIN_SETUP_H
@@ -9,8 +9,7 @@
 #include <assert.h>
 
 struct setup {
-    uint32_t width, height, first, last;
-    uint32_t first_setpoint, second_setpoint;
+    struct recharge_site site;
     const uint32_t *covers;
     size_t covers_len;
     const uint32_t *direction;
@@ -24,10 +23,10 @@ struct setup {
 };
 
 /* Packs the parameters of a public function. */
-#define GIVEN_SETUP                                                                        \
-    {                                                                                      \
-        width, height, first, last, first_setpoint, second_setpoint, covers, covers_len,   \
-            direction, direction_len, cover, cover_len, group, group_len, water, water_len \
+#define GIVEN_SETUP                                                                          \
+    {                                                                                        \
+        site, covers, covers_len, direction, direction_len, cover, cover_len, group, group_len, \
+            water, water_len                                                                 \
     }
 
 /* Where the numbers of a cover entry stand. The four-fold ones are for groups A to D. */
@@ -36,7 +35,7 @@ enum { CODE = 0, OPEN_WATER = 1, CURVE = 2, RECHARGE = 6, GROWING = 10, DORMANT 
 /* How many cells; asked for after test 1 only. */
 static inline uint32_t cell_count(const struct setup *s)
 {
-    return s->width * s->height;
+    return s->site.width * s->site.height;
 }
 
 /* The cover entry with a code, or none. */
@@ -75,16 +74,8 @@ static inline int64_t capacity_of(const struct setup *s, uint32_t cell)
 /* Season: both ends count as growing. */
 static inline bool is_growing(const struct setup *s, uint32_t day_of_year)
 {
-    return s->first <= day_of_year && day_of_year <= s->last;
+    return s->site.first_growing <= day_of_year && day_of_year <= s->site.last_growing;
 }
-
-/* ---------------------------------------------------------------- the day record */
-
-struct day {
-    uint32_t serial, day_of_year, gross;
-    int32_t minimum, mean, maximum;
-    uint32_t potential;
-};
 
 /* ---------------------------------------------------------------- directions */
 
@@ -113,13 +104,13 @@ static inline struct way way_of(const struct setup *s, uint32_t cell)
     default: return way; /* a closed depression */
     }
 
-    int64_t column = (int64_t)(cell % s->width) + right;
-    int64_t row = (int64_t)(cell / s->width) + down;
-    if (column < 0 || column >= s->width || row < 0 || row >= s->height) {
+    int64_t column = (int64_t)(cell % s->site.width) + right;
+    int64_t row = (int64_t)(cell / s->site.width) + down;
+    if (column < 0 || column >= s->site.width || row < 0 || row >= s->site.height) {
         way.goes = LEAVES;
     } else {
         way.goes = TO_CELL;
-        way.cell = (uint32_t)(row * s->width + column);
+        way.cell = (uint32_t)(row * s->site.width + column);
     }
     return way;
 }
@@ -141,14 +132,14 @@ static inline uint64_t refusal(uint64_t number, uint64_t place)
 /* Tests 1 to 6, then each of 7 to 10 (plain_tests.c): 0, or the refusal. `others` are the lengths of
  * the slices that a call was lent besides the setup's four. */
 uint64_t plain_tests_1_to_6(const struct setup *s, const size_t *others, size_t others_count);
-uint64_t plain_test_7(const struct day *day);
-uint64_t plain_test_8(const struct day *day, uint32_t last_serial);
+uint64_t plain_test_7(const struct recharge_day_record *day);
+uint64_t plain_test_8(const struct recharge_day_record *day, uint32_t last_serial);
 uint64_t plain_test_9(const struct setup *s, const uint32_t *soil, const uint32_t *snow,
                       const uint32_t *memory, uint32_t last_serial, uint32_t frost_index);
-uint64_t plain_test_10(const struct setup *s, const struct day *day, const uint32_t *snow);
+uint64_t plain_test_10(const struct setup *s, const struct recharge_day_record *day, const uint32_t *snow);
 
 /* Rule 2 at a cell (plain_rules.c). */
-int64_t plain_interception_of(const struct setup *s, const struct day *day, uint32_t cell);
+int64_t plain_interception_of(const struct setup *s, const struct recharge_day_record *day, uint32_t cell);
 
 /* One cell's stores and results of a day. */
 struct cell_day {
@@ -158,7 +149,7 @@ struct cell_day {
 
 /* Rules 1 to 8 (plain_rules.c). condition is the one that the day counts as; inflow is the sum of the
  * outflows of all cells pointing here. */
-struct cell_day plain_cell_rules(const struct setup *s, const struct day *day,
+struct cell_day plain_cell_rules(const struct setup *s, const struct recharge_day_record *day,
                                  enum plain_condition condition, uint32_t cell, struct way way,
                                  int64_t inflow, int64_t soil, int64_t snow);
 

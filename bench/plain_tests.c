@@ -17,8 +17,8 @@ enum {
 /* 1: width or height 0, or more than 4,096 cells. */
 static uint64_t test_1(const struct setup *s)
 {
-    if (s->width == 0 || s->height == 0 ||
-        (uint64_t)s->width * s->height > BALANCE_MAX_CELLS)
+    if (s->site.width == 0 || s->site.height == 0 ||
+        (uint64_t)s->site.width * s->site.height > BALANCE_MAX_CELLS)
         return refusal(1, 0);
     return 0;
 }
@@ -106,11 +106,11 @@ static uint64_t test_5(const struct setup *s)
 /* 6: season outside its limits, or setpoints (M-106). */
 static uint64_t test_6(const struct setup *s)
 {
-    if (s->first < 1 || s->first > DAYS_IN_YEAR || s->last < 1 || s->last > DAYS_IN_YEAR ||
-        s->first > s->last)
+    if (s->site.first_growing < 1 || s->site.first_growing > DAYS_IN_YEAR || s->site.last_growing < 1 || s->site.last_growing > DAYS_IN_YEAR ||
+        s->site.first_growing > s->site.last_growing)
         return refusal(6, 0);
-    if (s->first_setpoint > LARGEST_SETPOINT || s->second_setpoint > LARGEST_SETPOINT ||
-        s->first_setpoint > s->second_setpoint)
+    if (s->site.first_setpoint > LARGEST_SETPOINT || s->site.second_setpoint > LARGEST_SETPOINT ||
+        s->site.first_setpoint > s->site.second_setpoint)
         return refusal(6, 0);
     return 0;
 }
@@ -133,7 +133,7 @@ static bool temperature_outside(int32_t t)
 }
 
 /* 7: a day value outside its limits. */
-uint64_t plain_test_7(const struct day *day)
+uint64_t plain_test_7(const struct recharge_day_record *day)
 {
     if (day->serial > LARGEST_SERIAL ||
         day->day_of_year < 1 || day->day_of_year > DAYS_IN_YEAR ||
@@ -147,7 +147,7 @@ uint64_t plain_test_7(const struct day *day)
 }
 
 /* 8: serial does not follow. */
-uint64_t plain_test_8(const struct day *day, uint32_t last_serial)
+uint64_t plain_test_8(const struct recharge_day_record *day, uint32_t last_serial)
 {
     if (last_serial != BALANCE_NO_SERIAL && (uint64_t)day->serial != (uint64_t)last_serial + 1)
         return refusal(8, 0);
@@ -178,7 +178,7 @@ uint64_t plain_test_9(const struct setup *s, const uint32_t *soil, const uint32_
 }
 
 /* 10: snowfall would take some store past 10,000,000, before the day's melt. */
-uint64_t plain_test_10(const struct setup *s, const struct day *day, const uint32_t *snow)
+uint64_t plain_test_10(const struct setup *s, const struct recharge_day_record *day, const uint32_t *snow)
 {
     if (!plain_falls_as_snow(day->minimum, day->mean, day->maximum))
         return 0;

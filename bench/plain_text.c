@@ -117,13 +117,13 @@ static uint32_t to_field(int32_t number)
 /* ---------------------------------------------------------------- the program */
 
 struct grid {
-    uint32_t width, height, first, last;
+    struct recharge_site site;
     uint32_t covers[BALANCE_MAX_COVERS * BALANCE_ENTRY];
     size_t covers_len, cells;
     uint32_t direction[BALANCE_MAX_CELLS], cover[BALANCE_MAX_CELLS];
     uint32_t group[BALANCE_MAX_CELLS], water[BALANCE_MAX_CELLS];
     uint32_t soil[BALANCE_MAX_CELLS], snow[BALANCE_MAX_CELLS];
-    uint32_t memory[BALANCE_MEMORY], last_serial[1], frost_index[1];
+    uint32_t memory[BALANCE_MEMORY], last_serial, frost_index;
     uint32_t intercepted[BALANCE_MAX_CELLS], outflow[BALANCE_MAX_CELLS];
     uint32_t evapotranspired[BALANCE_MAX_CELLS], recharged[BALANCE_MAX_CELLS];
     uint32_t rejected[BALANCE_MAX_CELLS];
@@ -133,10 +133,11 @@ struct grid {
 /* The setup's numbers, in the order of the text. */
 static void take_setup(struct grid *g, const int32_t *number)
 {
-    g->width = to_field(number[0]);
-    g->height = to_field(number[1]);
-    g->first = to_field(number[2]);
-    g->last = to_field(number[3]);
+    g->site = (struct recharge_site){.width = to_field(number[0]), .height = to_field(number[1]),
+                                     .first_growing = to_field(number[2]),
+                                     .last_growing = to_field(number[3]),
+                                     .first_setpoint = TEXT_FIRST_SETPOINT,
+                                     .second_setpoint = TEXT_SECOND_SETPOINT};
     number += 5; /* the count of covers is known already */
     for (size_t i = 0; i < g->covers_len; i++)
         g->covers[i] = to_field(*number++);
@@ -155,25 +156,24 @@ static void take_setup(struct grid *g, const int32_t *number)
 
 static uint64_t start_fresh(struct grid *g)
 {
-    return plain_fresh(g->width, g->height, g->first, g->last, TEXT_FIRST_SETPOINT,
-                       TEXT_SECOND_SETPOINT, g->covers, g->covers_len, g->direction, g->cells,
-                       g->cover, g->cells, g->group, g->cells, g->water, g->cells, g->soil,
-                       g->cells, g->snow, g->cells, g->memory, BALANCE_MEMORY, g->last_serial, 1,
-                       g->frost_index, 1);
+    return plain_fresh(g->site, g->covers, g->covers_len, g->direction, g->cells, g->cover,
+                       g->cells, g->group, g->cells, g->water, g->cells, g->soil, g->cells,
+                       g->snow, g->cells, g->memory, &g->last_serial, &g->frost_index);
 }
 
 /* One day from its seven numbers: serial, day of year, gross precipitation, minimum, mean and
  * maximum temperature, potential evapotranspiration. */
 static uint64_t run_day(struct grid *g, const int32_t *number)
 {
-    return plain_day(g->width, g->height, g->first, g->last, TEXT_FIRST_SETPOINT,
-                     TEXT_SECOND_SETPOINT, g->covers, g->covers_len, g->direction, g->cells,
-                     g->cover, g->cells, g->group, g->cells, g->water, g->cells, g->soil, g->cells,
-                     g->snow, g->cells, g->memory, BALANCE_MEMORY, g->last_serial, 1,
-                     g->frost_index, 1, g->intercepted, g->cells, g->outflow, g->cells,
-                     g->evapotranspired, g->cells, g->recharged, g->cells, g->rejected, g->cells,
-                     g->totals, BALANCE_TOTALS, to_field(number[0]), to_field(number[1]),
-                     to_field(number[2]), number[3], number[4], number[5], to_field(number[6]));
+    const struct recharge_day_record day = {to_field(number[0]), to_field(number[1]),
+                                            to_field(number[2]), number[3], number[4], number[5],
+                                            to_field(number[6])};
+
+    return plain_day(g->site, g->covers, g->covers_len, g->direction, g->cells, g->cover, g->cells,
+                     g->group, g->cells, g->water, g->cells, g->soil, g->cells, g->snow, g->cells,
+                     g->memory, &g->last_serial, &g->frost_index, g->intercepted, g->cells,
+                     g->outflow, g->cells, g->evapotranspired, g->cells, g->recharged, g->cells,
+                     g->rejected, g->cells, g->totals, day);
 }
 
 size_t plain_text(const unsigned char *in, size_t n, unsigned char *out, size_t room)

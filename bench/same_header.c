@@ -1,4 +1,5 @@
-/* The header for C declares the same calls as balance.h: this file compiles only where each pair of declarations agrees. */
+/* The header for C declares the same calls as balance.h, and its structs are laid out as the library reads them: this file compiles only
+ * where all of it agrees. */
 #include "../include/recharge.h"
 
 #include "balance.h"
@@ -15,3 +16,7 @@ _Static_assert((int)RECHARGE_TOTALS == (int)BALANCE_TOTALS && RECHARGE_NO_SERIAL
 _Static_assert((int)RECHARGE_TEXT == (int)TEXT_ROOM, "room for a text");
 _Static_assert((int)RECHARGE_FIRST_SETPOINT == (int)TEXT_FIRST_SETPOINT, "the program's first setpoint");
 _Static_assert((int)RECHARGE_SECOND_SETPOINT == (int)TEXT_SECOND_SETPOINT, "the program's second setpoint");
+_Static_assert(sizeof(struct recharge_cover) == RECHARGE_ENTRY * sizeof(uint32_t), "a cover is its numbers in a row");
+_Static_assert(offsetof(struct recharge_cover, root_depth) == 12 * sizeof(uint32_t), "in the table's order");
+/* Both are longer than 16 bytes, so that no processor's C hands them over in registers (native.sh). */
+_Static_assert(sizeof(struct recharge_site) == 24 && sizeof(struct recharge_day_record) == 28, "by value");

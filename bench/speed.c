@@ -43,39 +43,38 @@ static void barrier(void)
 
 /* ---------------------------------------------------------------- days */
 
-struct day {
-    uint32_t day_of_year, gross;
-    int32_t minimum, mean, maximum;
-    uint32_t potential;
-};
-
-/* Rain, drought, frost with snow, thaw: every rule has its turn. */
-static const struct day days[DAYS] = {
-    {100, 0, 500, 600, 700, 900},      {101, 12000, 480, 560, 640, 700},
-    {102, 30000, 500, 560, 620, 500},  {103, 2500, 500, 600, 700, 1100},
-    {104, 0, 520, 640, 760, 2000},     {105, 0, 560, 680, 800, 2400},
-    {106, 0, 560, 700, 840, 2600},     {300, 8000, 200, 260, 300, 200},
-    {301, 15000, 180, 250, 310, 100},  {302, 0, 250, 320, 390, 300},
-    {303, 6000, 350, 420, 500, 400},   {150, 45000, 600, 680, 760, 1200},
-    {151, 100, 600, 700, 800, 2200},   {152, 0, 620, 740, 860, 2800},
-    {153, 0, 640, 760, 880, 3000},     {154, 20000, 600, 680, 760, 1500},
+/* Rain, drought, frost with snow, thaw: every rule has its turn. The serials are set as they come. */
+static const struct recharge_day_record days[DAYS] = {
+    {0, 100, 0, 500, 600, 700, 900},      {0, 101, 12000, 480, 560, 640, 700},
+    {0, 102, 30000, 500, 560, 620, 500},  {0, 103, 2500, 500, 600, 700, 1100},
+    {0, 104, 0, 520, 640, 760, 2000},     {0, 105, 0, 560, 680, 800, 2400},
+    {0, 106, 0, 560, 700, 840, 2600},     {0, 300, 8000, 200, 260, 300, 200},
+    {0, 301, 15000, 180, 250, 310, 100},  {0, 302, 0, 250, 320, 390, 300},
+    {0, 303, 6000, 350, 420, 500, 400},   {0, 150, 45000, 600, 680, 760, 1200},
+    {0, 151, 100, 600, 700, 800, 2200},   {0, 152, 0, 620, 740, 860, 2800},
+    {0, 153, 0, 640, 760, 880, 3000},     {0, 154, 20000, 600, 680, 760, 1500},
 };
 
 struct world {
     uint32_t soil[BALANCE_MAX_CELLS], snow[BALANCE_MAX_CELLS];
-    uint32_t memory[BALANCE_MEMORY], last_serial[1], frost_index[1];
+    uint32_t memory[BALANCE_MEMORY], last_serial, frost_index;
     uint32_t results[5][BALANCE_MAX_CELLS];
     uint64_t totals[BALANCE_TOTALS], returned;
 };
 
 static struct world start, worlds[2];
 
-#define SETUP                                                                                   \
-    width, height, 90, 280, TEXT_FIRST_SETPOINT, TEXT_SECOND_SETPOINT, covers,                  \
-        sizeof covers / sizeof covers[0], direction, cells, cover, cells, group, cells, water, cells
-#define STATE(w)                                                                            \
-    (w)->soil, cells, (w)->snow, cells, (w)->memory, BALANCE_MEMORY, (w)->last_serial, 1, \
-        (w)->frost_index, 1
+static struct recharge_site site(void)
+{
+    return (struct recharge_site){.width = width, .height = height, .first_growing = 90, .last_growing = 280,
+                                  .first_setpoint = TEXT_FIRST_SETPOINT, .second_setpoint = TEXT_SECOND_SETPOINT};
+}
+
+#define SETUP                                                                                  \
+    site(), covers, sizeof covers / sizeof covers[0], direction, cells, cover, cells, group,   \
+        cells, water, cells
+#define STATE(w) \
+    (w)->soil, cells, (w)->snow, cells, (w)->memory, &(w)->last_serial, &(w)->frost_index
 
 /* The days one after another, `repeats` times from the same state; the time of one day. */
 static double run(int which, uint32_t repeats)
@@ -88,16 +87,16 @@ static double run(int which, uint32_t repeats)
         memcpy(w->soil, start.soil, cells * sizeof w->soil[0]);
         memcpy(w->snow, start.snow, cells * sizeof w->snow[0]);
         memcpy(w->memory, start.memory, sizeof w->memory);
-        w->last_serial[0] = BALANCE_NO_SERIAL;
-        w->frost_index[0] = start.frost_index[0];
+        w->last_serial = BALANCE_NO_SERIAL;
+        w->frost_index = start.frost_index;
         w->returned = 0;
         double before = microseconds();
         for (uint32_t n = 0; n < DAYS; n++) {
-            const struct day *d = &days[n];
+            struct recharge_day_record day = days[n];
+            day.serial = n + 1;
             w->returned |= call(SETUP, STATE(w), w->results[0], cells, w->results[1], cells,
                                 w->results[2], cells, w->results[3], cells, w->results[4], cells,
-                                w->totals, BALANCE_TOTALS, n + 1, d->day_of_year, d->gross,
-                                d->minimum, d->mean, d->maximum, d->potential);
+                                w->totals, day);
             barrier();
         }
         spent += microseconds() - before;

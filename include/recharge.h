@@ -1,18 +1,25 @@
 /* recharge.h: a groundwater office's daily soil-water balance, proved, for C.
  *
- * Four calls: the setup check, the fresh state, one day, and the program's whole text. What they do is the law of documents 01
- * and 02 (of 02: M-106, frozen ground, and M-100, melt in millimetres); that they do it, for every input, refused or not, is
- * proved (crates/clib, docs/PROMISES.md). "Test" and "rule" numbers are document 01's.
+ * A setup check, a fresh state, one day, and the program's whole text. What they do is the law of documents 01 and 02 (of 02:
+ * M-106, frozen ground, M-100, melt in millimetres, and M-104, rejected recharge runs on downhill; docs/RULES.md has the rules in
+ * plain words); that they do it, for every input, refused or not, is proved (crates/clib, docs/PROMISES.md). "Test" and "rule"
+ * numbers are document 01's.
  *
- * Build the library with `rt staticlib clib` (x86-64 Linux) and link target/staticlib/libclib.a. It needs nothing else.
+ * Build the library with `rt staticlib clib` and link target/staticlib/libclib.a, for x86-64 Linux. Of the C library it needs
+ * memcpy and memset, and nothing else. examples/c has two programs over it.
  *
  * Units: a depth is a whole number of 0.0001 inch, a temperature a whole number of tenths of a degree Fahrenheit, a frost
  * index and its setpoints whole numbers of thousandths of a Celsius degree-day.
  * Cells are numbered from 0, row by row from the top left.
  *
- * Every slice is a pointer and its count of numbers. The pointer is never NULL, not even for a count of 0, and points to that
- * many numbers. A slice that a call may write overlaps no other slice of the call. That much is the caller's word: nothing
- * can test it. Everything else is tested: there is an answer for every number and every count.
+ * TWO WAYS TO CALL. With structs: fill a recharge_setup, a recharge_state and recharge_results, and call recharge_check_setup,
+ * recharge_fresh_state and recharge_one_day, whose arguments are named by their fields. They are inline and only hand the fields
+ * on to the raw calls, recharge_check, recharge_fresh and recharge_day, which are what is proved: there every slice is a pointer
+ * and its own count of numbers.
+ *
+ * Pointers: none is NULL, not even for a count of 0, and each points to as many numbers as its count or its declaration says.
+ * What a call may write overlaps nothing else that it is handed. That much is the caller's word: nothing can test it. Everything
+ * else is tested: there is an answer for every number and every count.
  *
  * Nothing is kept between calls, no memory is taken, and calls on different slices may run at the same time. A call uses
  * about 100,000 bytes of stack.
@@ -20,8 +27,6 @@
  * WHAT COMES BACK. 0 where the call accepts; else the refusal's number x 2^32 + its place (RECHARGE_NUMBER, RECHARGE_PLACE).
  * Tests run in the order of the numbers, and the place is the lowest that fails:
  *
- *   2  at 0: memory is not 5 numbers, last_serial or frost_index not 1, or totals not 7; tested before 1, and nothing at all
- *      is written
  *   1  width or height 0, or more than 4,096 cells: at 0
  *   2  a slice of one number a cell has another count: at 0
  *   3  the cover table: at the entry; at 0 for its size; at the later entry for the order of the codes
@@ -33,7 +38,7 @@
  *   9  the state outside its limits: at the cell; at the cell count for the memory or the frost index
  *  10  snowfall would take a store past 10,000,000: at the cell
  *
- * The setup check and the fresh state use 1 to 6, a day 1 to 10.
+ * The setup check and the fresh state use 1 to 6, a day 1 to 10. What a refused call leaves and writes stands with each call.
  */
 #ifndef RECHARGE_H
 #define RECHARGE_H
@@ -62,29 +67,75 @@ enum {
 #define RECHARGE_NUMBER(returned) ((uint32_t)((uint64_t)(returned) >> 32))
 #define RECHARGE_PLACE(returned) ((uint32_t)((uint64_t)(returned) & UINT32_MAX))
 
-/* Tests 1 to 6 of a setup.
- *
- *   width, height  at least 1, at most 4,096 cells
- *   first, last    first and last growing day, 1 to 366, first not after last; both ends count as growing
- *   first_setpoint, second_setpoint
- *                  of the frost index, 0 to 2,000,000, first not above second: on a day whose index is at or above the first
- *                  condition I counts as II, at or above the second every condition counts as III. With both at 2,000,000
- *                  only weeks of days below -76 degrees Fahrenheit have a say after a fresh state
- *   covers         the cover table: 1 to 64 entries of 16 numbers; covers_len counts the numbers. An entry:
- *                    0       code, 1 to 255, rising from entry to entry
- *                    1       open water, 0 or 1
- *                    2-5     curve number for soil groups A to D, 30 to 100
- *                    6-9     largest daily recharge per group, 0 to 100,000
- *                    10, 11  interception, growing and dormant, 0 to 10,000
- *                    12-15   root depth per group, 0 to 1,000 hundredths of a foot
- *   direction      of each cell: 1 right, 2 lower right, 4 down, 8 lower left, 16 left, 32 upper left, 64 up, 128 upper right;
- *                  any other number is a closed depression; open water points nowhere, whatever its number
- *   cover          of each cell: a code of the table
- *   group          of each cell: soil group, 1 to 4 for A to D
- *   water          of each cell: available water, 0 to 600 hundredths of an inch per foot
- */
-uint64_t recharge_check(uint32_t width, uint32_t height, uint32_t first, uint32_t last,
-                        uint32_t first_setpoint, uint32_t second_setpoint,
+/* ---------------------------------------------------------------- what is handed over */
+
+/* The grid's size and the climate. */
+struct recharge_site {
+    uint32_t width, height;               /* at least 1, at most 4,096 cells */
+    uint32_t first_growing, last_growing; /* days of the year, 1 to 366, first not after last; both ends count as growing */
+    /* Of the frost index, 0 to 2,000,000, first not above second: on a day whose index is at or above the first condition I
+     * counts as II, at or above the second every condition counts as III. With both at 2,000,000 only weeks of days below
+     * -76 degrees Fahrenheit have a say after a fresh state. */
+    uint32_t first_setpoint, second_setpoint;
+};
+
+/* An entry of the cover table: RECHARGE_ENTRY numbers in this order. Four stand for soil groups A to D. */
+struct recharge_cover {
+    uint32_t code;                /* 1 to 255, rising from entry to entry */
+    uint32_t open_water;          /* 0 or 1 */
+    uint32_t curve_number[4];     /* 30 to 100 */
+    uint32_t largest_recharge[4]; /* of a day, 0 to 100,000 */
+    uint32_t growing_interception; /* 0 to 10,000 */
+    uint32_t dormant_interception; /* 0 to 10,000 */
+    uint32_t root_depth[4];       /* 0 to 1,000 hundredths of a foot */
+};
+
+/* A setup. The limits hold for every entry and every cell, also where open water does not use the number. */
+struct recharge_setup {
+    struct recharge_site site;
+    const struct recharge_cover *covers; /* the cover table, 1 to 64 entries */
+    size_t covers_count;
+    /* Of each cell: direction, 1 right, 2 lower right, 4 down, 8 lower left, 16 left, 32 upper left, 64 up, 128 upper right.
+     * Any other number is a closed depression, also a negative one that was cast to unsigned, such as a mapping program's -9999:
+     * no test here sees it. Open water points nowhere, whatever its number. */
+    const uint32_t *direction;
+    const uint32_t *cover; /* a code of the table */
+    const uint32_t *group; /* soil group, 1 to 4 for A to D */
+    const uint32_t *water; /* available water, 0 to 600 hundredths of an inch per foot */
+    size_t cells;          /* numbers in each of the four */
+};
+
+/* A state. A fresh state fills it, a day takes it and leaves the next. */
+struct recharge_state {
+    uint32_t *soil;  /* of each cell, 0 to its capacity (available water x root depth), 0 on open water */
+    uint32_t *snow;  /* of each cell, 0 to 10,000,000, 0 on open water */
+    size_t cells;    /* numbers in each of the two */
+    uint32_t memory[RECHARGE_MEMORY]; /* gross precipitation of the five previous days, oldest first, 0 to 400,000 each */
+    uint32_t last_serial;             /* 0 to 9,999,999, or RECHARGE_NO_SERIAL */
+    uint32_t frost_index;             /* of the whole grid, 0 to 2,500,000 */
+};
+
+/* What a day gives for each cell. On land the outflow is the runoff and what the cell rejects, which runs on downhill with it,
+ * and it never passes the cell's water (rain, melt and what flows in); of a closed depression it is 0, and what is rejected there
+ * leaves the balance. On open water it is gross precipitation and all that flows in. */
+struct recharge_results {
+    uint32_t *intercepted, *outflow, *evapotranspired, *recharged, *rejected;
+    size_t cells; /* numbers in each of the five */
+};
+
+/* A day. */
+struct recharge_day_record {
+    uint32_t serial;      /* 0 to 9,999,999, one more than the last unless there is none */
+    uint32_t day_of_year; /* 1 to 366 */
+    uint32_t gross;       /* gross precipitation, 0 to 400,000 */
+    int32_t minimum, mean, maximum; /* temperatures, -1,000 to 1,500, minimum <= mean <= maximum */
+    uint32_t potential;   /* potential evapotranspiration, 0 to 20,000 */
+};
+
+/* ---------------------------------------------------------------- the raw calls, which are proved */
+
+/* Tests 1 to 6 of a setup. covers is the cover table, RECHARGE_ENTRY numbers an entry; covers_len counts the numbers. */
+uint64_t recharge_check(struct recharge_site site,
                         const uint32_t *covers, size_t covers_len,
                         const uint32_t *direction, size_t direction_len,
                         const uint32_t *cover, size_t cover_len,
@@ -92,15 +143,9 @@ uint64_t recharge_check(uint32_t width, uint32_t height, uint32_t first, uint32_
                         const uint32_t *water, size_t water_len);
 
 /* Tests 1 to 6, then a fresh state: soil full (0 on open water), snow 0, memory five zeros, last serial RECHARGE_NO_SERIAL,
- * frost index 0. Refused: soil and snow are left as they were, and the rest is as in a fresh state.
- *
- *   soil, snow     of each cell, to be written
- *   memory         5 numbers, to be written
- *   last_serial    1 number, to be written
- *   frost_index    1 number, to be written
- */
-uint64_t recharge_fresh(uint32_t width, uint32_t height, uint32_t first, uint32_t last,
-                        uint32_t first_setpoint, uint32_t second_setpoint,
+ * frost index 0. Refused: soil and snow are left as they were, and memory, last serial and frost index are written as in a
+ * fresh state. */
+uint64_t recharge_fresh(struct recharge_site site,
                         const uint32_t *covers, size_t covers_len,
                         const uint32_t *direction, size_t direction_len,
                         const uint32_t *cover, size_t cover_len,
@@ -108,37 +153,15 @@ uint64_t recharge_fresh(uint32_t width, uint32_t height, uint32_t first, uint32_
                         const uint32_t *water, size_t water_len,
                         uint32_t *soil, size_t soil_len,
                         uint32_t *snow, size_t snow_len,
-                        uint32_t *memory, size_t memory_len,
-                        uint32_t *last_serial, size_t last_serial_len,
-                        uint32_t *frost_index, size_t frost_index_len);
+                        uint32_t memory[RECHARGE_MEMORY], uint32_t *last_serial, uint32_t *frost_index);
 
-/* Tests 1 to 10, then one day.
- * Refused: the totals are zeros, and nothing else is changed.
- *
- *   soil           of each cell, 0 to its capacity (available water x root depth), 0 on open water; the state after the day
- *   snow           of each cell, 0 to 10,000,000, 0 on open water; the state after the day
- *   memory         5 numbers: gross precipitation of the five previous days, oldest first, 0 to 400,000 each; the next memory
- *   last_serial    1 number: the last serial, or RECHARGE_NO_SERIAL; this day's serial
- *   frost_index    1 number: the frost index of the whole grid before the day, 0 to 2,500,000; the index that the day sets,
- *                  floor(97 x index / 100) - floor(1,000 x (mean - 320) / 18), or 0 where that is negative; a floor below
- *                  zero is the whole number below. The index that the day sets decides what condition it counts as
- *   intercepted, outflow, evapotranspired, recharged, rejected
- *                  of each cell, to be written. On land the outflow is the runoff and what the cell rejects, which runs on
- *                  downhill with it, and it never passes the cell's water (rain, melt and what flows in); of a closed
- *                  depression it is 0, and what is rejected there leaves the balance. On open water it is gross precipitation
- *                  and all that flows in
- *   totals         7 numbers, to be written: gross, intercepted, evapotranspired, recharged, rejected in closed depressions,
- *                  gone from the grid, stored at the end (soil and snow). What was stored before the day and gross is the
- *                  sum of the other six
- *   serial         0 to 9,999,999, one more than the last unless there is none
- *   day_of_year    1 to 366
- *   gross          gross precipitation, 0 to 400,000
- *   minimum, mean, maximum
- *                  temperatures, -1,000 to 1,500, minimum <= mean <= maximum
- *   potential      potential evapotranspiration, 0 to 20,000
- */
-uint64_t recharge_day(uint32_t width, uint32_t height, uint32_t first, uint32_t last,
-                      uint32_t first_setpoint, uint32_t second_setpoint,
+/* Tests 1 to 10, then one day: the state after it, the results of each cell and seven totals. Memory, last serial and frost
+ * index are read and written. The frost index that the day sets is floor(97 x index / 100) - floor(1,000 x (mean - 320) / 18),
+ * or 0 where that is negative (a floor below zero is the whole number below), and it decides what condition the day counts as.
+ * The totals: gross, intercepted, evapotranspired, recharged, rejected in closed depressions, gone from the grid, stored at the
+ * end (soil and snow). What was stored before the day and gross is the sum of the other six.
+ * Refused: the totals are zeros, and nothing else is changed. */
+uint64_t recharge_day(struct recharge_site site,
                       const uint32_t *covers, size_t covers_len,
                       const uint32_t *direction, size_t direction_len,
                       const uint32_t *cover, size_t cover_len,
@@ -146,26 +169,60 @@ uint64_t recharge_day(uint32_t width, uint32_t height, uint32_t first, uint32_t 
                       const uint32_t *water, size_t water_len,
                       uint32_t *soil, size_t soil_len,
                       uint32_t *snow, size_t snow_len,
-                      uint32_t *memory, size_t memory_len,
-                      uint32_t *last_serial, size_t last_serial_len,
-                      uint32_t *frost_index, size_t frost_index_len,
+                      uint32_t memory[RECHARGE_MEMORY], uint32_t *last_serial, uint32_t *frost_index,
                       uint32_t *intercepted, size_t intercepted_len,
                       uint32_t *outflow, size_t outflow_len,
                       uint32_t *evapotranspired, size_t evapotranspired_len,
                       uint32_t *recharged, size_t recharged_len,
                       uint32_t *rejected, size_t rejected_len,
-                      uint64_t *totals, size_t totals_len,
-                      uint32_t serial, uint32_t day_of_year, uint32_t gross,
-                      int32_t minimum, int32_t mean, int32_t maximum, uint32_t potential);
+                      uint64_t totals[RECHARGE_TOTALS], struct recharge_day_record day);
 
 /* The program `balance` as a function: what it prints for the input's bytes.
  *
  *   input          any bytes; more than 65,536 of them are refused as text (11 at 0)
  *   output         at least RECHARGE_TEXT bytes: room for the longest text
  *
- * Returns how many bytes it wrote from the front of output on; every other byte is as it was. No text is empty: 0 comes back
- * where output is shorter than RECHARGE_TEXT, and nothing is written. It uses about 420,000 bytes of stack. */
+ * Returns how many bytes it wrote from the front of output on, at most RECHARGE_TEXT; every other byte is as it was. No text is
+ * empty: 0 comes back where output is shorter than RECHARGE_TEXT, and nothing is written. It uses about 420,000 bytes of stack. */
 size_t recharge_text(const unsigned char *input, size_t input_len, unsigned char *output, size_t output_len);
+
+/* ---------------------------------------------------------------- the same by structs */
+
+/* The setup's part of a raw call. A cover is RECHARGE_ENTRY numbers in a row. */
+#define RECHARGE_SETUP_(setup)                                                                                      \
+    (setup)->site, (const uint32_t *)(setup)->covers, (setup)->covers_count * RECHARGE_ENTRY,                       \
+        (setup)->direction, (setup)->cells, (setup)->cover, (setup)->cells, (setup)->group, (setup)->cells,         \
+        (setup)->water, (setup)->cells
+#define RECHARGE_STATE_(state)                                                                                      \
+    (state)->soil, (state)->cells, (state)->snow, (state)->cells, (state)->memory, &(state)->last_serial,           \
+        &(state)->frost_index
+#define RECHARGE_RESULTS_(results)                                                                                  \
+    (results)->intercepted, (results)->cells, (results)->outflow, (results)->cells, (results)->evapotranspired,     \
+        (results)->cells, (results)->recharged, (results)->cells, (results)->rejected, (results)->cells
+
+/* recharge_check. */
+static inline uint64_t recharge_check_setup(const struct recharge_setup *setup)
+{
+    return recharge_check(RECHARGE_SETUP_(setup));
+}
+
+/* recharge_fresh. */
+static inline uint64_t recharge_fresh_state(const struct recharge_setup *setup, struct recharge_state *state)
+{
+    return recharge_fresh(RECHARGE_SETUP_(setup), RECHARGE_STATE_(state));
+}
+
+/* recharge_day. */
+static inline uint64_t recharge_one_day(const struct recharge_setup *setup, struct recharge_state *state,
+                                        const struct recharge_results *results, uint64_t totals[RECHARGE_TOTALS],
+                                        struct recharge_day_record day)
+{
+    return recharge_day(RECHARGE_SETUP_(setup), RECHARGE_STATE_(state), RECHARGE_RESULTS_(results), totals, day);
+}
+
+#undef RECHARGE_SETUP_
+#undef RECHARGE_STATE_
+#undef RECHARGE_RESULTS_
 
 #ifdef __cplusplus
 }
