@@ -1,11 +1,27 @@
 #!/bin/sh
-# Builds the library for C and the worked example over it, runs it, and holds what it prints to worked.out.
+# Builds the library for C and the two examples over it, and tries them. The worked example prints what worked.out has. What each cell got of the
+# ridge is held to ridge.cells; of the year, all cells together, to the recharge that `balance` printed (examples/year/year.out); and a refused
+# text gives no cell.
 set -eu
 cd "$(dirname "$0")"
 work=$(mktemp -d)
 trap 'rm -rf "$work"' EXIT
 ../../bench/native.sh clib "$work/libclib.a"
-${CC:-cc} -std=c11 -Wall -Wextra -O2 -I../../include worked.c "$work/libclib.a" -o "$work/worked"
+for program in worked cells; do
+    ${CC:-cc} -std=c11 -Wall -Wextra -Wconversion -O2 -I../../include $program.c "$work/libclib.a" -o "$work/$program"
+done
+# the header for C++ too, where there is a compiler
+if command -v "${CXX:-c++}" >/dev/null; then ${CXX:-c++} -std=c++11 -Wall -Wextra -fsyntax-only -x c++ ../../include/recharge.h; fi
+
 "$work/worked" >"$work/worked.out"
 cmp worked.out "$work/worked.out"
 cat worked.out
+
+"$work/cells" <../ridge.txt >"$work/ridge.cells"
+cmp ridge.cells "$work/ridge.cells"
+"$work/cells" <../year/year.txt >"$work/year.cells"
+awk '{ for (i = 1; i <= NF; i++) sum += $i } END { printf "%.4f %d cells\n", sum, NR * NF }' "$work/year.cells" >"$work/cells.sum"
+awk 'NF == 8 { sum += $5 } END { printf "%.4f 768 cells\n", sum / 10000 }' ../year/year.out | cmp - "$work/cells.sum"
+if echo '1 1' | "$work/cells" >"$work/none" 2>"$work/why"; then echo 'run.sh: a refused text was taken' >&2; exit 1; fi
+[ ! -s "$work/none" ] && [ "$(cat "$work/why")" = 'cells: refused 11 at 2' ]
+echo 'cells.c: each cell of the ridge, all cells of the year, and a refused text'

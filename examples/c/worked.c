@@ -7,53 +7,66 @@
 
 enum { CELLS = 2 };
 
-/* Two cells in a row, of one cover: the left one drains to the right one, a closed depression. */
-static const uint32_t covers[RECHARGE_ENTRY] = {3,    0,    75,  75, 75,  75,  6000, 6000,
-                                                6000, 6000, 900, 0,  250, 250, 250,  250};
+/* One cover, and two cells in a row: the left one drains to the right one, a closed depression. */
+static const struct recharge_cover grass = {
+    .code = 3,
+    .open_water = 0,
+    .curve_number = {75, 75, 75, 75},
+    .largest_recharge = {6000, 6000, 6000, 6000},
+    .growing_interception = 900,
+    .dormant_interception = 0,
+    .root_depth = {250, 250, 250, 250},
+};
 static const uint32_t direction[CELLS] = {1, 0}, cover[CELLS] = {3, 3}, group[CELLS] = {2, 2}, water[CELLS] = {200, 200};
+static const struct recharge_setup setup = {
+    .site = {.width = 2, .height = 1, .first_growing = 120, .last_growing = 270,
+             .first_setpoint = RECHARGE_FIRST_SETPOINT, .second_setpoint = RECHARGE_SECOND_SETPOINT},
+    .covers = &grass, .covers_count = 1,
+    .direction = direction, .cover = cover, .group = group, .water = water, .cells = CELLS,
+};
 
-static uint32_t soil[CELLS], snow[CELLS], memory[RECHARGE_MEMORY], last_serial[1], frost_index[1];
+static uint32_t soil[CELLS], snow[CELLS];
 static uint32_t intercepted[CELLS], outflow[CELLS], evapotranspired[CELLS], recharged[CELLS], rejected[CELLS];
-static uint64_t totals[RECHARGE_TOTALS];
+static struct recharge_state state = {.soil = soil, .snow = snow, .cells = CELLS};
+static const struct recharge_results results = {.intercepted = intercepted, .outflow = outflow,
+                                                .evapotranspired = evapotranspired, .recharged = recharged,
+                                                .rejected = rejected, .cells = CELLS};
 
-#define SETUP                                                                                                          \
-    2, 1, 120, 270, RECHARGE_FIRST_SETPOINT, RECHARGE_SECOND_SETPOINT, covers, RECHARGE_ENTRY, direction, CELLS,       \
-        cover, CELLS, group, CELLS, water, CELLS
-#define STATE soil, CELLS, snow, CELLS, memory, RECHARGE_MEMORY, last_serial, 1, frost_index, 1
-#define RESULTS                                                                                                        \
-    intercepted, CELLS, outflow, CELLS, evapotranspired, CELLS, recharged, CELLS, rejected, CELLS, totals, RECHARGE_TOTALS
-
-static void refused(uint64_t returned)
+/* Is it accepted? A refusal is printed as the program prints it. */
+static int accepted(uint64_t returned)
 {
-    printf("refused %" PRIu32 " at %" PRIu32 "\n", RECHARGE_NUMBER(returned), RECHARGE_PLACE(returned));
+    if (returned != 0)
+        printf("refused %" PRIu32 " at %" PRIu32 "\n", RECHARGE_NUMBER(returned), RECHARGE_PLACE(returned));
+    return returned == 0;
 }
 
-static void day(uint32_t serial, uint32_t day_of_year, uint32_t gross)
+static int run_day(struct recharge_day_record day)
 {
-    uint64_t returned = recharge_day(SETUP, STATE, RESULTS, serial, day_of_year, gross, 600, 700, 800, 2000);
+    uint64_t totals[RECHARGE_TOTALS];
 
-    if (returned != 0) {
-        refused(returned);
-        return;
-    }
-    printf("%" PRIu32, serial);
+    if (!accepted(recharge_one_day(&setup, &state, &results, totals, day)))
+        return 0;
+    printf("%" PRIu32, day.serial);
     for (int i = 0; i < RECHARGE_TOTALS; i++)
         printf(" %" PRIu64, totals[i]);
     printf("\n");
+    return 1;
 }
 
 int main(void)
 {
-    uint64_t returned = recharge_fresh(SETUP, STATE);
+    struct recharge_day_record day = {.serial = 1, .day_of_year = 150, .gross = 30900,
+                                      .minimum = 600, .mean = 700, .maximum = 800, .potential = 2000};
 
-    if (returned != 0) {
-        refused(returned);
+    if (!accepted(recharge_check_setup(&setup)) || !accepted(recharge_fresh_state(&setup, &state)))
         return 1;
-    }
-    day(1, 150, 30900);
+    if (!run_day(day))
+        return 1;
     printf("outflow %" PRIu32 " %" PRIu32 ", rejected %" PRIu32 " %" PRIu32 "\n", outflow[0], outflow[1], rejected[0], rejected[1]);
-    day(2, 151, 0);
+    day.serial = 2, day.day_of_year = 151, day.gross = 0;
+    if (!run_day(day))
+        return 1;
     printf("soil %" PRIu32 " %" PRIu32 "\n", soil[0], soil[1]);
-    day(2, 152, 0);
-    return 0;
+    day.day_of_year = 152; /* its serial is 2 once more: that is refused, and nothing changes */
+    return run_day(day) ? 1 : 0;
 }
