@@ -88,5 +88,5 @@ END {
         }
 }' examples/year/year.txt $made/never.cells $made/frozen.cells > $made/kinds.md
 
-tables examples/README.md "${1:-check}"
+tables examples/README.md "${1:-check}" ridge march kinds
 echo 'the tables of examples/README.md are as the plain C has them'

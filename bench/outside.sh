@@ -115,5 +115,5 @@ END {
     print "| none (`end`) | " count[0] " | | |"
 }' docs/vectors.txt > $made/refusals.md
 
-tables docs/VECTORS.md "$mode"
+tables docs/VECTORS.md "$mode" refusals spread curves gaps retention frost snow melt
 echo 'the outside tables are as docs/VECTORS.md has them'

@@ -10,12 +10,22 @@ plain() { # NAME [NAME..]
     ${CC:-cc} -std=c11 -Wall -Wextra -Wconversion -Wshadow -O2 $(printf 'bench/%s.c ' "$@" $PLAIN) -o "$made/$1"
 }
 
-# Puts build/NAME.md between each <!-- made: NAME --> of the document and the <!-- end --> after it, or holds what stands there to it.
-tables() { # DOCUMENT write|check
-    awk -v made=$made '
-    /^<!-- end -->$/ { skip = 0 }
-    !skip { print }
-    /^<!-- made: [a-z]* -->$/ { while ((getline line < (made "/" $3 ".md")) > 0) print line; skip = 1 }' "$1" > $made/document.md
-    [ "$2" != write ] || cp $made/document.md "$1"
-    cmp $made/document.md "$1"
+# Puts build/NAME.md between each <!-- made: NAME --> of the document and the <!-- end --> after it, or holds what stands there to it. Each NAME
+# that is asked for has to have its place there: a document without the mark would pass unread.
+tables() { # DOCUMENT write|check NAME..
+    document=$1 mode=$2
+    shift 2
+    awk -v made=$made -v asked="$*" -v document="$document" '
+    /^<!-- end -->$/ { inside = "" }
+    inside == "" { print }
+    /^<!-- made: [a-z]* -->$/ { inside = $3; found[$3]; while ((getline line < (made "/" $3 ".md")) > 0) print line }
+    function lacking(what) { print document " has no " what > "/dev/stderr"; bad = 1 }
+    END {
+        n = split(asked, name, " ")
+        for (i = 1; i <= n; i++) if (!(name[i] in found)) lacking("place for the table " name[i])
+        if (inside != "") lacking("end of the table " inside)
+        exit bad
+    }' "$document" > $made/document.md
+    [ "$mode" != write ] || cp $made/document.md "$document"
+    cmp $made/document.md "$document"
 }
