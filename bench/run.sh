@@ -1,0 +1,305 @@
+#!/bin/sh
+# Tries what stands around the proved program, of which no proof speaks: the status of `./run`, what it passes on, what it and the program say
+# on standard error, the explanations of refusals (tools/), and examples/totals.sh.
+#
+#     bench/run.sh          checks; writes nothing outside bench/build/
+#     bench/run.sh write    stores what examples/refused/ is held to: read the explanations before you keep them
+#
+# The refusals themselves are the plain C's. Where balance is not built yet, ./run proves and builds it first.
+set -eu
+cd "$(dirname "$0")/.."
+LC_ALL=C # the system's words in English
+export LC_ALL
+. bench/tables.sh
+. tools/loader.sh
+PLAIN="$PLAIN plain_text"
+mode=${1:-check}
+tried=0
+
+wrong() { # WORDS
+    echo "bench/run.sh: wrong: $1"
+    exit 1
+}
+
+# Runs a command: its status, $made/got.out and $made/got.said are what came of it.
+attempt() { # COMMAND..
+    status=0
+    "$@" > $made/got.out 2> $made/got.said || status=$?
+    tried=$((tried + 1))
+}
+
+# Holds the last attempt to its status, its standard output, and what it says on standard error: a file for each, or the word for it.
+expect() { # WHAT STATUS OUT nothing|something|SAID
+    [ "$status" -eq "$2" ] || wrong "$1: status $status, not $2"
+    cmp $made/got.out "$3" || wrong "$1: standard output is not as it should be"
+    case $4 in
+    nothing) [ ! -s $made/got.said ] || wrong "$1: standard error has: $(cat $made/got.said)" ;;
+    something) [ -s $made/got.said ] || wrong "$1: standard error says nothing" ;;
+    *) diff "$4" $made/got.said || wrong "$1: standard error is not as it should be" ;;
+    esac
+}
+
+said() { # WHAT PATTERN: standard error has a line like this
+    grep -q "$2" $made/got.said || wrong "$1: no line on standard error is like '$2': $(cat $made/got.said)"
+}
+
+# The same command with a full disk, or nothing, behind its output or standard error.
+full_disk() { "$@" > /dev/full; }
+closed() { "$@" >&-; }
+said_to_full_disk() { "$@" 2> /dev/full; }
+said_to_closed() { "$@" 2>&-; }
+
+# ---------------------------------------------------------------- accepted
+
+accepted() {
+    attempt ./run examples/ridge.txt
+    expect 'a file' 0 examples/ridge.out nothing
+    attempt ./run examples/year/year.txt
+    expect 'the year' 0 examples/year/year.out nothing
+    attempt ./run < examples/ridge.txt
+    expect 'standard input' 0 examples/ridge.out nothing
+    # shellcheck disable=SC2002 # a pipe is what is tried
+    attempt sh -c 'cat examples/ridge.txt | ./run'
+    expect 'a pipe' 0 examples/ridge.out nothing
+    attempt sh -c '{ head -n 4; sleep 1; cat; } < examples/ridge.txt | ./run'
+    expect 'a pipe that writes in pieces' 0 examples/ridge.out nothing
+    attempt sh -c '{ echo notes; cat examples/ridge.txt; } | { read -r notes; ./run; }'
+    expect 'a pipe that was read in part' 0 examples/ridge.out nothing
+    rm -f $made/fifo
+    mkfifo $made/fifo
+    cat examples/ridge.txt > $made/fifo &
+    writer=$!
+    attempt ./run $made/fifo
+    kill $writer 2> /dev/null || : # it would wait for a reader that never came
+    expect 'a named pipe' 0 examples/ridge.out nothing
+}
+
+# ---------------------------------------------------------------- refused
+
+# Two texts that are not stored: one with Windows line ends, and ten years, which are too long.
+make_texts() {
+    awk '{ printf "%s\r\n", $0 }' examples/ridge.txt > $made/11-windows.txt
+    awk 'NR <= 7 { print } END { for (day = 1; day <= 3650; day++) print day, (day - 1) % 365 + 1, 0, 500, 600, 700, 1000 }' \
+        examples/ridge.txt > $made/11-long.txt
+}
+
+# explained AWK TEXT PRINTED: what the last line of PRINTED means, by that awk.
+explained() {
+    # shellcheck disable=SC2046 # refused NUMBER at PLACE
+    set -- "$1" "$2" $(($(wc -l < "$3") - 1)) $(tail -n 1 "$3")
+    # shellcheck disable=SC2086 # busybox awk
+    od -An -v -tu1 < "$2" | $1 -v days="$3" -v number="$5" -v place="$7" -f tools/numbers.awk -f tools/explain.awk
+}
+
+awks() { # the awks that this machine has
+    for awk in mawk gawk original-awk; do if command -v $awk > /dev/null; then echo $awk; fi; done
+    if command -v busybox > /dev/null; then echo busybox awk; fi
+}
+
+refused() {
+    awks > $made/awk.list
+    for out in examples/refused/*.out; do
+        name=$(basename "$out" .out)
+        text=examples/refused/$name.txt
+        [ -f "$text" ] || text=$made/$name.txt
+        $made/plain_balance < "$text" | cmp - "$out" || wrong "$name: the plain C has another output"
+        attempt ./run "$text"
+        expect "$name" 1 "$out" "examples/refused/$name.said"
+        attempt ./run < "$text"
+        expect "$name on standard input" 1 "$out" "examples/refused/$name.said"
+        while read -r awk; do
+            explained "$awk" "$text" "$out" | cmp - "examples/refused/$name.said" || wrong "$name: explained otherwise by $awk"
+        done < $made/awk.list
+    done
+}
+
+store() {
+    for text in examples/refused/*.txt $made/11-windows.txt $made/11-long.txt; do
+        name=examples/refused/$(basename "$text" .txt)
+        $made/plain_balance < "$text" > "$name.out"
+        explained awk "$text" "$name.out" > "$name.said"
+    done
+}
+
+# What is said of a word that cannot be read: every cause by itself.
+cause() { # WORD, as printf takes it, PATTERN
+    # shellcheck disable=SC2059
+    printf "3 1 120 $1" > $made/word.txt
+    $made/plain_balance < $made/word.txt > $made/word.out
+    attempt explained awk $made/word.txt $made/word.out
+    grep -q "^line 1, column 9: .*$2" $made/got.out || wrong "'$1' is not said to have '$2': $(cat $made/got.out)"
+}
+
+# shellcheck disable=SC2016 # what is shown stands in such quotes
+causes() {
+    cause 0.25 '`0.25`.* a decimal point'
+    cause 1,000 'a comma'
+    cause '270\t3' '`270\\t3`.* a tab'
+    cause '270\r\n3' '`270\\r`.* a carriage return .*Windows'
+    cause +5 'a plus sign'
+    cause 007 'a zero in front'
+    cause -0 'minus zero'
+    cause - 'a minus without digits'
+    cause 5-6 'a minus that is not in front'
+    cause 1234567890 '10 digits'
+    cause 1e5 'letters'
+    cause '"3"' 'the sign `"`'
+    cause '3\0004' '`3\\x004`.* no plain text'
+    cause '3\302\240' '`3\\xC2\\xA0`.* no plain text'
+    cause 123456789012345678901 '`12345678901234567890..` (21 bytes)'
+    cause '1.5,+\t' 'a decimal point .*, a comma .*, a tab .*, a plus sign'
+    printf '\357\273\2773 1' > $made/mark.txt
+    attempt ./run $made/mark.txt
+    said 'a byte order mark' 'line 1, column 1: .*byte order mark'
+}
+
+# An explanation that fails leaves the text and the status as they are.
+unexplained() {
+    text=examples/refused/7-mark.txt out=examples/refused/7-mark.out
+    mkdir -p $made/no-awk
+    printf '#!/bin/sh\nexit 3\n' > $made/no-awk/awk
+    chmod +x $made/no-awk/awk
+    attempt env PATH="$PWD/$made/no-awk:$PATH" ./run $text
+    expect 'an awk that fails' 1 $out something
+    attempt said_to_full_disk ./run $text
+    expect 'no room on standard error' 1 $out nothing
+    attempt said_to_closed ./run $text
+    expect 'standard error closed' 1 $out nothing
+}
+
+# ---------------------------------------------------------------- neither
+
+neither() {
+    attempt ./run $made/no-such-file
+    expect 'a missing file' 2 /dev/null something
+    said 'a missing file' 'no-such-file: no such file'
+    attempt ./run examples/ridge.txt examples/ridge.txt
+    expect 'two files' 2 /dev/null something
+    said 'two files' '^usage: '
+    for text in examples/ridge.txt examples/refused/7-mark.txt; do
+        attempt full_disk ./run $text
+        expect "$text to a full disk" 2 /dev/null something
+        said "$text to a full disk" 'No space left on device'
+        attempt closed ./run $text
+        expect "$text to a closed output" 2 /dev/null something
+    done
+    attempt ./run < /proc/self/mem # its first byte cannot be read
+    expect 'a read that fails' 2 /dev/null something
+    said 'a read that fails' 'Input/output error'
+    attempt ./run <&-
+    expect 'a closed input' 2 /dev/null something
+    attempt env TMPDIR=$made/no-such-folder ./run examples/ridge.txt
+    expect 'no room to keep the text' 2 /dev/null something
+}
+
+# A disk that fills up under the program's output, just so that `end 46` is left of `end 465`: no text's last line is that.
+cut_short() {
+    awk 'BEGIN {
+        print "1 1 120 270 1\n5 1 100 100 100 100 0 0 0 0 0 0 0 0 0 0\n0 5 4 0"
+        for (day = 0; day < 465; day++) print 1000000 + day, 1, (day == 0 ? 100 : 0), 0, 0, 0, 0
+    }' > $made/cut.txt
+    attempt sh -c "ulimit -f 20; { ./run $made/cut.txt; echo \$? >&2; } | cat" # 20 times 512 bytes a file, but not a pipe
+    [ "$(tail -n 1 $made/got.out)" = 'end 46' ] || wrong "a text that is cut short: it ends with $(tail -n 1 $made/got.out)"
+    [ "$(tail -n 1 $made/got.said)" = 2 ] || wrong "a text that is cut short: status $(tail -n 1 $made/got.said), not 2"
+}
+
+# What the program itself says: of a folder, which ./run leaves to it, and run alone by the same loader.
+program_itself() {
+    attempt ./run < examples
+    expect 'a folder as standard input' 2 /dev/null something
+    said 'a folder as standard input' '^balance: standard input: Is a directory$'
+    attempt ./run examples
+    expect 'a folder as the file' 2 /dev/null something
+    attempt loaded target/bin/balance < /proc/self/mem
+    cmp $made/got.out /dev/null || wrong 'a read that fails: the program prints something'
+    said 'a read that fails in the program' '^balance: standard input: Input/output error$'
+    attempt loaded target/bin/balance < examples/ridge.txt
+    expect 'the program by its loader' 0 examples/ridge.out nothing
+    attempt full_disk loaded target/bin/balance < examples/ridge.txt
+    said 'the program on a full disk' '^balance: standard output: No space left on device$'
+}
+
+# ---------------------------------------------------------------- damaged texts
+
+# Every refusal of the plain C on damaged copies, explained.
+damaged() { # TEXT COUNT
+    rm -rf $made/damaged
+    mkdir $made/damaged
+    awk -v copies="$2" -v folder=$made/damaged -f bench/damage.awk "$1"
+    for text in "$made"/damaged/*.txt; do
+        $made/plain_balance < "$text" > $made/damaged.out
+        last=$(tail -n 1 $made/damaged.out)
+        case $last in
+        'refused '*) ;;
+        *) continue ;;
+        esac
+        explained awk "$text" $made/damaged.out > $made/damaged.said || wrong "$text: $last: the explanation failed"
+        number=${last#refused } number=${number%% *}
+        awk -v number="$number" -v place="${last##* }" -v text="$text" -f bench/explained.awk $made/damaged.said ||
+            wrong "$text: $last: explained otherwise"
+        echo "$number" >> $made/explained
+    done
+}
+
+# ---------------------------------------------------------------- totals.sh
+
+totals() {
+    sed 's/^        //' > $made/year.totals << 'END'
+        inches             over the grid  over the land
+        gross                      32.53          32.53
+        intercepted                 3.07           3.09
+        evapotranspired            20.68          20.85
+        recharged                   8.37           8.43
+        rejected                    0.00           0.00
+        gone                        0.41           0.16
+        stored at the end           7.91           7.98
+        365 days, 768 cells, 762 of them land
+END
+    attempt examples/totals.sh examples/year/year.txt examples/year/year.out
+    expect 'the totals of the year' 0 $made/year.totals nothing
+    tr ' ' '\n' < examples/year/year.txt > $made/column.txt # a number a line
+    attempt examples/totals.sh $made/column.txt examples/year/year.out
+    expect 'the totals of a text with a number a line' 0 $made/year.totals nothing
+    sed '30s/.*/refused 7 at 0/; 31,$d' examples/year/year.out > $made/part.out
+    attempt examples/totals.sh examples/year/year.txt $made/part.out
+    expect 'the totals of a refused year' 1 /dev/null something
+    sed '$d' examples/year/year.out > $made/part.out
+    attempt examples/totals.sh examples/year/year.txt $made/part.out
+    expect 'the totals of a year without its end' 1 /dev/null something
+    attempt examples/totals.sh examples/ridge.txt examples/year/year.out
+    expect 'the totals of another input' 1 /dev/null something
+    sed 's/ 12000 / 12001 /' examples/ridge.txt > $made/other.txt
+    attempt examples/totals.sh $made/other.txt examples/ridge.out
+    expect 'the totals of an input with other weather' 1 /dev/null something
+    water_alone
+}
+
+# A grid of open water alone has no land to divide by.
+water_alone() {
+    printf '%s\n' '1 1 120 270 1' '5 1 100 100 100 100 0 0 0 0 0 0 0 0 0 0' '0 5 4 0' '1 1 5000 0 0 0 0' > $made/water.txt
+    $made/plain_balance < $made/water.txt > $made/water.out
+    attempt examples/totals.sh $made/water.txt $made/water.out
+    [ "$status" -eq 0 ] || wrong 'the totals of open water alone: it fails'
+    grep -q '^gone  *0.50  *-$' $made/got.out || wrong 'the totals of open water alone: not 0.50 inches gone, and none of the land'
+}
+
+plain plain_balance
+make_texts
+[ "$mode" != write ] || store
+./run examples/ridge.txt > $made/first.out # proves and builds the program, where that is to be done
+accepted
+refused
+causes
+unexplained
+neither
+cut_short
+totals
+: > $made/explained
+damaged examples/ridge.txt 200
+damaged examples/refused/8-serial.txt 60
+damaged examples/refused/5-ring.txt 40
+damaged examples/refused/10-snow.txt 40
+damaged examples/year/year.txt 60
+echo "damaged texts explained, by refusal: $(sort -n $made/explained | uniq -c | awk '{ printf "%s%d (%d times)", (NR > 1 ? ", " : ""), $2, $1 }')"
+program_itself
+echo "$tried runs have the status, the text and the words that they should; $(wc -l < $made/explained) refusals of damaged texts are explained"
