@@ -183,7 +183,7 @@ neither() {
         attempt closed ./run $text
         expect "$text to a closed output" 2 /dev/null something
     done
-    attempt ./run < /proc/self/mem # its first byte cannot be read
+    attempt ./run < /proc/self/mem # of this shell: its first byte cannot be read
     expect 'a read that fails' 2 /dev/null something
     said 'a read that fails' 'Input/output error'
     attempt ./run <&-
