@@ -283,6 +283,14 @@ water_alone() {
     grep -q '^gone  *0.50  *-$' $made/got.out || wrong 'the totals of open water alone: not 0.50 inches gone, and none of the land'
 }
 
+# README shows a run of each kind: these lines stand there one after the other.
+shown() { # FILE..
+    cat "$@" | awk '
+    FNR == NR { want[++lines] = $0; next }
+    { at = $0 == want[at + 1] ? at + 1 : $0 == want[1]; if (at == lines) { found = 1; exit } }
+    END { exit !found }' - README.md || wrong "README does not show $*"
+}
+
 plain plain_balance
 make_texts
 [ "$mode" != write ] || store
@@ -302,4 +310,6 @@ damaged examples/refused/10-snow.txt 40
 damaged examples/year/year.txt 60
 echo "damaged texts explained, by refusal: $(sort -n $made/explained | uniq -c | awk '{ printf "%s%d (%d times)", (NR > 1 ? ", " : ""), $2, $1 }')"
 program_itself
+shown examples/ridge.out
+shown examples/refused/7-temperatures.out examples/refused/7-temperatures.said
 echo "$tried runs have the status, the text and the words that they should; $(wc -l < $made/explained) refusals of damaged texts are explained"

@@ -186,7 +186,7 @@ function explain_text() {
 
 function explain_length() {
     print "The text has more than " commas(LONGEST) " bytes, blanks counted: the first too many is at " past "."
-    print "Split the area or the years; each run starts with full soils, no snow and no frost."
+    print "Split the area along its divides, or the years; each run starts with full soils, no snow and no frost."
 }
 
 function explain_word(    meant) {
@@ -289,7 +289,7 @@ function explain_grid() {
     print at[0] ": " called["header", 0] " is " width "; " at[1] ": " called["header", 1] " is " height "."
     if (width < 1 || height < 1) print "Each is at least 1, and the cells are " commas(MOST_CELLS) " at most."
     else print width " x " height (width * height < 1e15 ? sprintf(" = %.0f", width * height) : "") " cells, and " commas(MOST_CELLS) \
-        " are the most: split the area."
+        " are the most: split the area along its divides."
 }
 
 function explain_covers(    i) {
