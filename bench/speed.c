@@ -164,7 +164,7 @@ static void make_heavy(uint32_t w, uint32_t h)
     for (uint32_t i = 0; i < cells; i++)
         at += sprintf(at, "%" PRIu32 " 3 2 9\n", direction[i]);
     for (uint32_t n = 1;; n++) {
-        const struct day *d = &days[n % DAYS];
+        const struct recharge_day_record *d = &days[n % DAYS];
         int more = sprintf(line, "%" PRIu32 " %" PRIu32 " %" PRIu32 " %d %d %d %" PRIu32 "\n", n,
                            d->day_of_year, d->gross, d->minimum, d->mean, d->maximum, d->potential);
         if (at + more > (char *)text + TEXT_LONGEST)
