@@ -81,13 +81,13 @@ struct recharge_site {
 
 /* An entry of the cover table: RECHARGE_ENTRY numbers in this order. Four stand for soil groups A to D. */
 struct recharge_cover {
-    uint32_t code;                /* 1 to 255, rising from entry to entry */
-    uint32_t open_water;          /* 0 or 1 */
-    uint32_t curve_number[4];     /* 30 to 100 */
-    uint32_t largest_recharge[4]; /* of a day, 0 to 100,000 */
+    uint32_t code;                 /* 1 to 255, rising from entry to entry */
+    uint32_t open_water;           /* 0 or 1 */
+    uint32_t curve_number[4];      /* 30 to 100 */
+    uint32_t largest_recharge[4];  /* of a day, 0 to 100,000 */
     uint32_t growing_interception; /* 0 to 10,000 */
     uint32_t dormant_interception; /* 0 to 10,000 */
-    uint32_t root_depth[4];       /* 0 to 1,000 hundredths of a foot */
+    uint32_t root_depth[4];        /* 0 to 1,000 hundredths of a foot */
 };
 
 /* A setup. The limits hold for every entry and every cell, also where open water does not use the number. */
@@ -107,9 +107,9 @@ struct recharge_setup {
 
 /* A state. A fresh state fills it, a day takes it and leaves the next. */
 struct recharge_state {
-    uint32_t *soil;  /* of each cell, 0 to its capacity (available water x root depth), 0 on open water */
-    uint32_t *snow;  /* of each cell, 0 to 10,000,000, 0 on open water */
-    size_t cells;    /* numbers in each of the two */
+    uint32_t *soil; /* of each cell, 0 to its capacity (available water x root depth), 0 on open water */
+    uint32_t *snow; /* of each cell, 0 to 10,000,000, 0 on open water */
+    size_t cells;   /* numbers in each of the two */
     uint32_t memory[RECHARGE_MEMORY]; /* gross precipitation of the five previous days, oldest first, 0 to 400,000 each */
     uint32_t last_serial;             /* 0 to 9,999,999, or RECHARGE_NO_SERIAL */
     uint32_t frost_index;             /* of the whole grid, 0 to 2,500,000 */
@@ -125,11 +125,11 @@ struct recharge_results {
 
 /* A day. */
 struct recharge_day_record {
-    uint32_t serial;      /* 0 to 9,999,999, one more than the last unless there is none */
-    uint32_t day_of_year; /* 1 to 366 */
-    uint32_t gross;       /* gross precipitation, 0 to 400,000 */
+    uint32_t serial;                /* 0 to 9,999,999, one more than the last unless there is none */
+    uint32_t day_of_year;           /* 1 to 366 */
+    uint32_t gross;                 /* gross precipitation, 0 to 400,000 */
     int32_t minimum, mean, maximum; /* temperatures, -1,000 to 1,500, minimum <= mean <= maximum */
-    uint32_t potential;   /* potential evapotranspiration, 0 to 20,000 */
+    uint32_t potential;             /* potential evapotranspiration, 0 to 20,000 */
 };
 
 /* ---------------------------------------------------------------- the raw calls, which are proved */

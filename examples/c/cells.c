@@ -70,7 +70,7 @@ int main(void)
     const struct recharge_results results = {figures[2], figures[3], figures[4], figures[5], figures[6], setup.cells};
     struct recharge_state state = {.soil = figures[0], .snow = figures[1], .cells = setup.cells};
     if (recharge_fresh_state(&setup, &state) != 0)
-        return 1;
+        return 1; /* cannot be, here and below: the text was taken */
     while (at[strspn(at, " \n")] != '\0') {
         for (int k = 0; k < 7; k++)
             d[k] = number();
