@@ -114,11 +114,10 @@ static void loss(int64_t c, int64_t soil, int64_t d)
     given(number(plain_loss(soil, c, d)), "C %s, soil %s, d %s", number(c), number(soil), number(d));
 }
 
-static void figures(void)
+static void ground_and_snow(void)
 {
     const int64_t deep = 10000000;
 
-    printf("| rule | figure | given: figure | proved |\n|---|---|---|---|\n");
     begin("setup", "capacity");
     capacity(200, 250), capacity(360, 50), capacity(200, 333), capacity(120, 333);
     end("");
@@ -134,6 +133,10 @@ static void figures(void)
     begin("3", "melt");
     melts(9090, 485), melts(3677, 485), melts(deep, 322);
     end("");
+}
+
+static void conditions(void)
+{
     begin("5", "condition");
     wetness(true, 13999), wetness(true, 14000), wetness(true, 21000), wetness(true, 21001);
     end("`sum-13999`, `sum-14000`, `sum-21000`, `sum-21001` in `StarredFigures`");
@@ -147,6 +150,10 @@ static void figures(void)
     begin("5", "curve number c");
     curve(90, CONDITION_III), curve(69, CONDITION_III);
     end("");
+}
+
+static void frosts(void)
+{
     begin("M-106", "next index");
     frost(0, 319), frost(1000, 321), frost(55674, 140), frost(79919, 140), frost(85000, 400);
     end("`tenth-below`, `tenth-above`, `winter`, `thawing` in `FrostFigures`");
@@ -156,6 +163,10 @@ static void figures(void)
     begin("M-106", "condition I counts as");
     counts(55999), counts(56000), counts(82999), counts(83000);
     end("`below-first`, `at-first`, `below-second`, `at-second` in `FrostFigures`");
+}
+
+static void runoff_and_soil(void)
+{
     begin("6", "runoff");
     runoff(80, 50000), runoff(57, 30000), runoff(75, 6667), runoff(100, 1234);
     end("`80-of-50000`, `57-of-30000`, `75-of-6667`, `100-of-1234` in `StarredFigures`");
@@ -174,6 +185,15 @@ static void figures(void)
     begin("8", "loss");
     loss(50000, 25000, 2000), loss(18000, 18000, 2000);
     end("");
+}
+
+static void figures(void)
+{
+    printf("| rule | figure | given: figure | proved |\n|---|---|---|---|\n");
+    ground_and_snow();
+    conditions();
+    frosts();
+    runoff_and_soil();
 }
 
 /* ---------------------------------------------------------------- the worked day */

@@ -65,6 +65,9 @@ accepted() {
     expect 'a pipe that writes in pieces' 0 examples/ridge.out nothing
     attempt sh -c '{ echo notes; cat examples/ridge.txt; } | { read -r notes; ./run; }'
     expect 'a pipe that was read in part' 0 examples/ridge.out nothing
+    ln -sf "$PWD/run" $made/linked
+    attempt $made/linked examples/ridge.txt
+    expect 'by a link' 0 examples/ridge.out nothing
     rm -f $made/fifo
     mkfifo $made/fifo
     cat examples/ridge.txt > $made/fifo &
@@ -153,6 +156,27 @@ causes() {
     said 'a byte order mark' 'line 1, column 1: .*byte order mark'
 }
 
+# A number left out of a line, or one too many, is found on that line, in every so many lines; and where one of the first five is left out
+# that is said.
+odd_lines() { # TEXT EVERY
+    rows=$(wc -l < "$1") row=3
+    while [ "$row" -le "$rows" ]; do
+        for damage in "${row}s/ [^ ]*\$//" "${row}s/\$/ 1/"; do
+            sed "$damage" "$1" > $made/odd.txt
+            $made/plain_balance < $made/odd.txt > $made/odd.out
+            attempt explained awk $made/odd.txt $made/odd.out
+            grep -q "^Line $row has " $made/got.out || wrong "$1, line $row: it is not found: $(cat $made/got.out)"
+        done
+        row=$((row + $2))
+    done
+    for damage in 2d '1s/ [^ ]*$//'; do
+        sed "$damage" "$1" > $made/odd.txt
+        $made/plain_balance < $made/odd.txt > $made/odd.out
+        attempt explained awk $made/odd.txt $made/odd.out
+        grep -q 'numbers before it was left out' $made/got.out || wrong "$1, $damage: not said to be left out: $(cat $made/got.out)"
+    done
+}
+
 # An explanation that fails leaves the text and the status as they are.
 unexplained() {
     text=examples/refused/7-mark.txt out=examples/refused/7-mark.out
@@ -173,6 +197,9 @@ neither() {
     attempt ./run $made/no-such-file
     expect 'a missing file' 2 /dev/null something
     said 'a missing file' 'no-such-file: no such file'
+    attempt ./run --help
+    expect 'no file but a question' 2 /dev/null something
+    said 'no file but a question' 'usage: '
     attempt ./run examples/ridge.txt examples/ridge.txt
     expect 'two files' 2 /dev/null something
     said 'two files' '^usage: '
@@ -298,6 +325,9 @@ make_texts
 accepted
 refused
 causes
+odd_lines examples/ridge.txt 1
+odd_lines examples/refused/7-mark.txt 1
+odd_lines examples/year/year.txt 97
 unexplained
 neither
 cut_short

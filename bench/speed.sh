@@ -1,5 +1,5 @@
 #!/bin/sh
-# Times one day (and the whole text, once the library has it) of the proved library against fast.c (-O3), in one process.
+# Times one day and the whole text of the proved library against fast.c (-O3), in one process.
 #
 #     ./speed.sh [ROUNDS]
 #
@@ -9,14 +9,12 @@ cd "$(dirname "$0")"
 mkdir -p build
 . ./files.sh
 CC=${CC:-cc}
-TEXT=
-if grep -q 'fn recharge_text(' ../crates/clib/src/*.rt; then TEXT=-DTHIRD_TEXT=recharge; fi
 ./native.sh clib build/libclib.a
 for file in fast fast_text; do
     $CC -std=c11 -O3 -c $file.c -o build/$file.o
 done
 # shellcheck disable=SC2046,SC2086
-$CC -std=gnu11 -Wall -Wextra -Wconversion -Wshadow -O2 -DTHIRD=recharge $TEXT $(printf '%s.c ' $SPEED) build/fast.o build/fast_text.o \
+$CC -std=gnu11 -Wall -Wextra -Wconversion -Wshadow -O2 -DTHIRD=recharge -DTHIRD_TEXT=recharge $(printf '%s.c ' $SPEED) build/fast.o build/fast_text.o \
     build/libclib.a -o build/speed
 uname -m
 sed -n 's/^model name[^:]*: //p' /proc/cpuinfo | sed 1q

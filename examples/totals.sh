@@ -10,6 +10,9 @@
 # its serials and its precipitation.
 set -eu
 [ $# -eq 2 ] || { echo 'usage: examples/totals.sh INPUT OUTPUT' >&2; exit 2; }
+for file; do
+    [ ! -d "$file" ] || { echo "totals.sh: $file: is a folder" >&2; exit 1; }
+done
 awk '
 function fail(why) { print "totals.sh: " why | "cat >&2"; close("cat >&2"); exit 1 }
 function read_input(file,    got, i) {

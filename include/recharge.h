@@ -22,7 +22,7 @@
  * else is tested: there is an answer for every number and every count.
  *
  * Nothing is kept between calls, no memory is taken, and calls on different slices may run at the same time. A call uses
- * about 100,000 bytes of stack.
+ * less than 100,000 bytes of stack.
  *
  * WHAT COMES BACK. 0 where the call accepts; else the refusal's number x 2^32 + its place (RECHARGE_NUMBER, RECHARGE_PLACE).
  * Tests run in the order of the numbers, and the place is the lowest that fails:
@@ -183,14 +183,14 @@ uint64_t recharge_day(struct recharge_site site,
  *   output         at least RECHARGE_TEXT bytes: room for the longest text
  *
  * Returns how many bytes it wrote from the front of output on, at most RECHARGE_TEXT; every other byte is as it was. No text is
- * empty: 0 comes back where output is shorter than RECHARGE_TEXT, and nothing is written. It uses about 420,000 bytes of stack. */
+ * empty: 0 comes back where output is shorter than RECHARGE_TEXT, and nothing is written. It uses less than 420,000 bytes of stack. */
 size_t recharge_text(const unsigned char *input, size_t input_len, unsigned char *output, size_t output_len);
 
 /* ---------------------------------------------------------------- the same by structs */
 
-/* The setup's part of a raw call. A cover is RECHARGE_ENTRY numbers in a row. */
+/* The setup's part of a raw call. A cover is RECHARGE_ENTRY numbers in a row, from its code on. */
 #define RECHARGE_SETUP_(setup)                                                                                      \
-    (setup)->site, (const uint32_t *)(setup)->covers, (setup)->covers_count * RECHARGE_ENTRY,                       \
+    (setup)->site, &(setup)->covers->code, (setup)->covers_count * RECHARGE_ENTRY,                                  \
         (setup)->direction, (setup)->cells, (setup)->cover, (setup)->cells, (setup)->group, (setup)->cells,         \
         (setup)->water, (setup)->cells
 #define RECHARGE_STATE_(state)                                                                                      \

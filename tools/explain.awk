@@ -202,20 +202,22 @@ function explain_header() {
     print "It begins with the width and height of the grid, the first and last day of the growing season and the number of covers."
 }
 
-function explain_end(    asked) {
+function explain_end(    asked, days_in) {
     asked = "By its first five numbers it needs " HEADER " + " COVER " x " plural(covers, "cover") " + " CELL " x " plural(cells, "cell") " = " first_day
+    days_in = int((count - first_day) / DAY)
     if (count < first_day) {
         print "The text has " count " numbers and ends at " at[count - 1] "."
         print asked " before the first day: " (first_day - count) " are missing."
         print "The next would be " stands_for(count) "."
     } else {
         print "The text has " count " numbers and ends at " at[count - 1] ", within a day."
-        print asked " before the first day, then " DAY " a day: " count " make " plural(int((count - first_day) / DAY), "whole day") \
-            ", and " ((count - first_day) % DAY) " of the next day's " DAY "."
+        print asked " before the first day; " with_days(days_in) " and " with_days(days_in + 1) "."
     }
-    if (!say_odd_line()) print "No line has more or fewer numbers than the lines around it: a whole line may be missing, or one too many."
+    if (!say_count_left_out() && !say_odd_line()) print "No line stands out: a whole line may be missing, or one too many."
     if (laid_out()) say_rows()
 }
+
+function with_days(n) { return first_day " + " DAY " x " plural(n, "day") " = " (first_day + DAY * n) }
 
 # ---------------------------------------------------------------- the lines of a text
 
@@ -225,16 +227,17 @@ function first_line(    k) {
     return lines + 1
 }
 
+# Lines of so many numbers. One that begins among the first five can only be a cover, which has taken the place of a number left out.
 function rows_of(size,    k, rows) {
     rows = 0
-    for (k = first_line(); k <= lines; k++) rows += has_numbers[k] == size
+    for (k = 1; k <= lines; k++) rows += has_numbers[k] == size && (first_on[k] >= HEADER || size == COVER)
     return rows
 }
 
 # Is the text laid out with a cover, a cell or a day on a line? A text may be laid out otherwise: line breaks are free.
 function laid_out(    of_covers, of_cells) {
     of_covers = rows_of(COVER); of_cells = rows_of(CELL)
-    return of_covers > 0 && of_cells > 0 && 2 * (of_covers + of_cells + rows_of(DAY)) >= lines + 1 - first_line()
+    return (of_covers > 0 || covers == 1) && (of_cells > 0 || cells == 1) && 2 * (of_covers + of_cells + rows_of(DAY)) >= lines + 1 - first_line()
 }
 
 function say_rows() {
@@ -242,44 +245,51 @@ function say_rows() {
         plural(cells, "cell") "; of " DAY ", a day each: " rows_of(DAY) "."
 }
 
-# Is the line just one cover, cell or day, as the text is read?
-function is_record(k,    i) {
-    i = first_on[k]
-    if (i < first_cell) return has_numbers[k] == COVER && (i - HEADER) % COVER == 0
-    if (i < first_day) return has_numbers[k] == CELL && (i - first_cell) % CELL == 0
-    return has_numbers[k] == DAY && (i - first_day) % DAY == 0
+# Where the number of covers was read on a line that is itself a cover, one of the numbers before it was left out.
+function say_count_left_out(    k) {
+    for (k = 1; k < lines && first_on[k + 1] <= HEADER - 1; k++) continue
+    if (has_numbers[k] < COVER - 1 || has_numbers[k] > COVER + 1) return 0
+    print "The number of covers, " given[HEADER - 1] ", was read at " at[HEADER - 1] ", on a line of " plural(has_numbers[k], "number") \
+        ", like a cover's: one of the numbers before it was left out."
+    return 1
 }
 
-# The lines around the k-th line that it differs from, in words with their count, or nothing. They are the line before it, if one of the next
-# three has as many again; the two before it, if it is the last; the two after it, if a kind of lines begins with it. One that could
-# itself be a cover, a cell or a day, or several, is left out where that alone could make it differ.
-function differs(k, first,    here, before, after) {
-    here = has_numbers[k]; before = has_numbers[k - 1]; after = has_numbers[k + 1]
-    if (is_record(k)) return ""
-    if (k > first && here != before && again(k, before)) return "lines around it have " before
-    if (k == lines && k > first + 1 && here != before && before == has_numbers[k - 2] && (first_on[k] >= first_day || !is_size(here)))
-        return "lines before it have " before
-    if (k + 2 <= lines && (k == first || here != before) && here != after && after == has_numbers[k + 2] && here % CELL && here % DAY)
-        return "lines after it have " after
-    return ""
+# Says the first line that does not have as many numbers as the lines around it; 0 where there is none.
+function say_odd_line() { return laid_out() ? say_odd_record() : say_odd_neighbour() }
+
+# Covers, then cells, then days, one a line: the first line that is none of them, or one of an earlier kind, or that stands alone among the
+# others. Two lines may be one of them, broken.
+function say_odd_record(    k, size, here) {
+    size = COVER
+    for (k = first_line(); k <= lines; k++) {
+        here = has_numbers[k]
+        if (here == size) continue
+        if (!is_size(here) && !is_size(has_numbers[k + 1]) && here + has_numbers[k + 1] == size) { k++; continue }
+        if (is_size(here) && here != COVER && size != DAY && has_numbers[k + 1] != size) { size = here; continue }
+        if (is_size(here)) print "Line " line_of[k] " has " here " numbers where the line before it has " has_numbers[k - 1] "."
+        else print "Line " line_of[k] " has " plural(here, "number") ": a cover has " COVER ", a cell " CELL ", a day " DAY "."
+        return 1
+    }
+    return 0
 }
 
 function is_size(n) { return n == COVER || n == CELL || n == DAY }
 
-function again(k, size,    later) {
-    for (later = k + 1; later <= k + 3 && later <= lines; later++) if (has_numbers[later] == size) return 1
+# Otherwise laid out: the first line that differs from the one before it, if one of the next three has as many again, or from the two
+# before it, if it is the last.
+function say_odd_neighbour(    k, first, here, before) {
+    first = first_line()
+    for (k = first + 1; k <= lines; k++) {
+        here = has_numbers[k]; before = has_numbers[k - 1]
+        if (here == before || !(again(k, before) || (k == lines && k > first + 1 && before == has_numbers[k - 2]))) continue
+        print "Line " line_of[k] " has " plural(here, "number") " where the " (k == lines ? "lines before it" : "lines around it") " have " before "."
+        return 1
+    }
     return 0
 }
 
-# Says the first line that does not have as many numbers as the lines around it; 0 where there is none.
-function say_odd_line(    k, first, around) {
-    first = first_line()
-    for (k = first; k <= lines; k++) {
-        around = differs(k, first)
-        if (around == "") continue
-        print "Line " line_of[k] " has " plural(has_numbers[k], "number") " where the " around "."
-        return 1
-    }
+function again(k, size,    later) {
+    for (later = k + 1; later <= k + 3 && later <= lines; later++) if (has_numbers[later] == size) return 1
     return 0
 }
 
@@ -295,8 +305,7 @@ function explain_grid() {
 function explain_covers(    i) {
     if (!covers) {
         say_value(4, "header", 4, "it may be " limits("header", 4))
-        if (given[4] > MOST_COVERS && given[4] <= MOST_CODE) print "If the number was left out, this is the code of the first cover."
-        else print "It stands before the cover table, which has " COVER " numbers for each."
+        if (!say_count_left_out()) print "It stands before the cover table, which has " COVER " numbers for each."
         return
     }
     i = HEADER + COVER * place

@@ -4,14 +4,7 @@
 # The kit's folder: rt stands in its bin/, perhaps behind links.
 kit_folder() {
     rt=$(command -v rt) || return 1
-    while [ -L "$rt" ]; do
-        link=$(readlink "$rt")
-        case $link in
-        /*) rt=$link ;;
-        *) rt=$(dirname "$rt")/$link ;;
-        esac
-    done
-    (cd "$(dirname "$rt")/.." && pwd -P)
+    dirname "$(dirname "$(readlink -f "$rt")")"
 }
 
 # Runs a program as `rt` itself does: by the loader of the kit's toolchain. The program is for x86-64; on another processor it runs under the

@@ -111,7 +111,7 @@ function why(    text) {
     if ("letter" in has) text = also(text, "letters (no names, no notes, no mark for a missing value)")
     if ("sign" in has) text = also(text, "the sign `" sign "`")
     if ("strange" in has) text = also(text, "bytes that are no plain text (ASCII), shown as \\xNN")
-    if ("return" in has) text = also(text, "a carriage return (the file was saved with Windows line ends)")
+    if ("return" in has) text = also(text, "a carriage return (the file was saved with Windows or old Mac line ends)")
     return "it has " text
 }
 

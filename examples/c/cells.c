@@ -2,7 +2,8 @@
  *
  *     cells < TEXT
  *
- * A text that `balance` refuses is answered with that refusal on standard error, and status 1. `run.sh` builds and tries it. */
+ * A text that `balance` refuses is answered with that refusal on standard error, and status 1; a read or a write that fails is said there, with
+ * status 2. `run.sh` builds and tries it. */
 #include "recharge.h"
 
 #include <stdio.h>
@@ -29,6 +30,12 @@ static int accepted(size_t length)
         return 1;
     fprintf(stderr, "cells: %s", (const char *)said + last);
     return 0;
+}
+
+static int failed(const char *what)
+{
+    perror(what);
+    return 2;
 }
 
 static int32_t number(void)
@@ -63,8 +70,8 @@ int main(void)
     int32_t d[7];
 
     if (ferror(stdin))
-        perror("cells: standard input");
-    if (ferror(stdin) || !accepted(length))
+        return failed("cells: standard input");
+    if (!accepted(length))
         return 1;
     const struct recharge_setup setup = read_setup();
     const struct recharge_results results = {figures[2], figures[3], figures[4], figures[5], figures[6], setup.cells};
@@ -82,5 +89,5 @@ int main(void)
     }
     for (size_t i = 0; i < setup.cells; i++)
         printf("%.4f%c", (double)recharge[i] / 10000, (i + 1) % setup.site.width == 0 ? '\n' : ' ');
-    return 0;
+    return fflush(stdout) == 0 ? 0 : failed("cells: standard output");
 }

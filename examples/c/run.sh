@@ -1,7 +1,7 @@
 #!/bin/sh
 # Builds the library for C and the two examples over it, and tries them. The worked example prints what worked.out has. What each cell got of the
-# ridge is held to ridge.cells; of the year, all cells together, to the recharge that `balance` printed (examples/year/year.out); and a refused
-# text gives no cell.
+# ridge is held to ridge.cells; of the year, all cells together, to the recharge that `balance` printed (examples/year/year.out); a refused text
+# gives no cell; and a read or a write that fails is said.
 set -eu
 cd "$(dirname "$0")"
 work=$(mktemp -d)
@@ -24,4 +24,12 @@ awk '{ for (i = 1; i <= NF; i++) sum += $i } END { printf "%.4f %d cells\n", sum
 awk 'NF == 8 { sum += $5 } END { printf "%.4f 768 cells\n", sum / 10000 }' ../year/year.out | cmp - "$work/cells.sum"
 if echo '1 1' | "$work/cells" >"$work/none" 2>"$work/why"; then echo 'run.sh: a refused text was taken' >&2; exit 1; fi
 [ ! -s "$work/none" ] && [ "$(cat "$work/why")" = 'cells: refused 11 at 2' ]
-echo 'cells.c: each cell of the ridge, all cells of the year, and a refused text'
+for program in worked cells; do
+    status=0
+    "$work/$program" <../ridge.txt >/dev/full 2>"$work/why" || status=$?
+    [ $status -eq 2 ] && grep -q "^$program: standard output: " "$work/why"
+done
+status=0
+"$work/cells" <.. >"$work/none" 2>"$work/why" || status=$?
+[ $status -eq 2 ] && [ ! -s "$work/none" ] && grep -q '^cells: standard input: ' "$work/why"
+echo 'cells.c: each cell of the ridge, all cells of the year, a refused text, a read and a write that fail'

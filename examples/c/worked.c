@@ -68,5 +68,11 @@ int main(void)
         return 1;
     printf("soil %" PRIu32 " %" PRIu32 "\n", soil[0], soil[1]);
     day.day_of_year = 152; /* its serial is 2 once more: that is refused, and nothing changes */
-    return run_day(day) ? 1 : 0;
+    if (run_day(day))
+        return 1;
+    if (fflush(stdout) != 0) {
+        perror("worked: standard output");
+        return 2;
+    }
+    return 0;
 }
