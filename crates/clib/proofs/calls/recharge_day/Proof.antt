@@ -15,9 +15,31 @@ use Rattle.clib.proofs.HandedLaws.{same-setup, day-placed, day-narrow, 
 use Rattle.clib.proofs.calls.recharge_day.Statement.{statement}
 use Rattle.clib.proofs.calls.recharge_day.Tie as tie
 
--- where the day was called, seen from where its past is read; where the past, the climate and the grid that it was handed were made; and the start
+-- what the day wrote, seen from where its past is read, back to its call; where the past, the climate and the grid that it was handed were made; and
+-- the start
+abbrev rejected : tie.After-kept → tie.After-rejected
+rejected c = c .before .before
+
+abbrev recharged : tie.After-kept → tie.After-recharged
+recharged c = rejected c .before .before
+
+abbrev evapotranspired : tie.After-kept → tie.After-evapotranspired
+evapotranspired c = recharged c .before .before
+
+abbrev outflow : tie.After-kept → tie.After-outflow
+outflow c = evapotranspired c .before .before
+
+abbrev intercepted : tie.After-kept → tie.After-intercepted
+intercepted c = outflow c .before .before
+
+abbrev snow : tie.After-kept → tie.After-snow
+snow c = intercepted c .before .before
+
+abbrev soil : tie.After-kept → tie.After-soil
+soil c = snow c .before .before
+
 abbrev called : tie.After-kept → tie.After-day
-called c = c .before .before .before .before .before .before .before .before .before .before .before .before .before .before .before
+called c = soil c .before
 
 abbrev past : tie.After-day → tie.After-past-from
 past c = c .before .before .before .before .before .before .before .before .before
@@ -75,9 +97,12 @@ returned-as-requires c κs =
     let at = called (c .before .before .before .before) in
     day-placed (handed-setup at) (handed-state at) (the-results (start at)) (handed-day at) {o = answered at} (at .day .ensures)
 
+abbrev kept : tie.After-returned-as → tie.After-kept
+kept c = c .before .before .before .before .before
+
 returns : tie.Need-returns
 returns c =
-    let at = called (c .before .before .before .before .before) in
+    let at = called (kept c) in
     day-handed (the-setup (start at)) (the-stores (start at)) (the-results (start at)) (dayFrom (start at .args .day))
     {t = handed-setup at} {p = pastAs (past at .past-from .result)} {z = handed-day at} {o = answered at} (at .day .ensures)
     (same-setup _ _ _ (grid at .grid-of .ensures) (climate at .climate-of .ensures) _ _ _ _ _)
@@ -99,11 +124,11 @@ recharge-day-spec =
     index-kept-requires
     (λ c κs. search needs)
     returned-as-requires
-    (λ c. search needs)
-    (λ c. search needs)
-    (λ c. search needs)
-    (λ c. search needs)
-    (λ c. search needs)
-    (λ c. search needs)
-    (λ c. search needs)
+    (λ c. soil (kept c) .soil .given)
+    (λ c. snow (kept c) .snow .given)
+    (λ c. intercepted (kept c) .intercepted .given)
+    (λ c. outflow (kept c) .outflow .given)
+    (λ c. evapotranspired (kept c) .evapotranspired .given)
+    (λ c. recharged (kept c) .recharged .given)
+    (λ c. rejected (kept c) .rejected .given)
     returns)

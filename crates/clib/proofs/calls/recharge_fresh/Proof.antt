@@ -4,9 +4,15 @@ use Rattle.clib.proofs.HandedLaws.{same-setup, fresh-near, fresh-narrow
 use Rattle.clib.proofs.calls.recharge_fresh.Statement.{statement}
 use Rattle.clib.proofs.calls.recharge_fresh.Tie as tie
 
--- where the fresh state was called, seen from where its past is read
+-- what the fresh state wrote, seen from where its past is read, and its call
+abbrev snow : tie.After-past → tie.After-snow
+snow c = c .before .before
+
+abbrev soil : tie.After-past → tie.After-soil
+soil c = snow c .before .before
+
 abbrev called : tie.After-past → tie.After-fresh
-called c = c .before .before .before .before .before
+called c = soil c .before
 
 abbrev past : tie.After-returned-as → tie.After-past
 past c = c .before .before .before .before
@@ -39,6 +45,6 @@ recharge-fresh-spec =
     (λ c κs. search needs)
     index-kept-requires
     returned-as-requires
-    (λ c. search needs)
-    (λ c. search needs)
+    (λ c. soil (past c) .soil .given)
+    (λ c. snow (past c) .snow .given)
     returns)
