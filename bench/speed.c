@@ -44,7 +44,7 @@ static void barrier(void)
 /* ---------------------------------------------------------------- days */
 
 /* Rain, drought, frost with snow, thaw: every rule has its turn. The serials are set as they come. */
-static const struct recharge_day_record days[DAYS] = {
+static const struct recharge_day_record mixed[DAYS] = {
     {0, 100, 0, 500, 600, 700, 900},      {0, 101, 12000, 480, 560, 640, 700},
     {0, 102, 30000, 500, 560, 620, 500},  {0, 103, 2500, 500, 600, 700, 1100},
     {0, 104, 0, 520, 640, 760, 2000},     {0, 105, 0, 560, 680, 800, 2400},
@@ -53,6 +53,16 @@ static const struct recharge_day_record days[DAYS] = {
     {0, 303, 6000, 350, 420, 500, 400},   {0, 150, 45000, 600, 680, 760, 1200},
     {0, 151, 100, 600, 700, 800, 2200},   {0, 152, 0, 620, 740, 860, 2800},
     {0, 153, 0, 640, 760, 880, 3000},     {0, 154, 20000, 600, 680, 760, 1500},
+};
+
+/* No rain, no snow: on every day each cell with soil loses by rule 8. */
+static const struct recharge_day_record drying[DAYS] = {
+    {0, 150, 0, 500, 600, 700, 900},   {0, 151, 0, 520, 640, 760, 2000}, {0, 152, 0, 560, 680, 800, 2400},
+    {0, 153, 0, 560, 700, 840, 2600},  {0, 154, 0, 500, 560, 620, 500},  {0, 155, 0, 500, 600, 700, 1100},
+    {0, 156, 0, 620, 740, 860, 2800},  {0, 157, 0, 640, 760, 880, 3000}, {0, 158, 0, 600, 700, 800, 2200},
+    {0, 159, 0, 600, 680, 760, 1200},  {0, 160, 0, 600, 680, 760, 1500}, {0, 161, 0, 700, 820, 940, 4100},
+    {0, 162, 0, 720, 850, 980, 5000},  {0, 163, 0, 450, 520, 590, 400},  {0, 164, 0, 480, 560, 640, 700},
+    {0, 165, 0, 690, 800, 910, 3600},
 };
 
 struct world {
@@ -77,7 +87,7 @@ static struct recharge_site site(void)
     (w)->soil, cells, (w)->snow, cells, (w)->memory, &(w)->last_serial, &(w)->frost_index
 
 /* The days one after another, `repeats` times from the same state; the time of one day. */
-static double run(int which, uint32_t repeats)
+static double run(const struct recharge_day_record days[DAYS], int which, uint32_t repeats)
 {
     balance_day *const call = which == FAST ? fast_day : JOIN(THIRD, _day);
     struct world *const w = &worlds[which];
@@ -120,7 +130,7 @@ static int by_size(const void *a, const void *b)
 }
 
 /* Turn and turn about; who begins changes from round to round. */
-static void measure(const char *name, int rounds)
+static void measure(const char *name, const struct recharge_day_record days[DAYS], int rounds)
 {
     static double ratios[MOST_ROUNDS];
     double least[2] = {1e30, 1e30};
@@ -133,7 +143,7 @@ static void measure(const char *name, int rounds)
         double spent[2];
         for (int turn = 0; turn < 2; turn++) {
             int which = (n + turn) & 1;
-            spent[which] = run(which, repeats);
+            spent[which] = run(days, which, repeats);
         }
         same_worlds(name);
         if (n < 0)
@@ -164,7 +174,7 @@ static void make_heavy(uint32_t w, uint32_t h)
     for (uint32_t i = 0; i < cells; i++)
         at += sprintf(at, "%" PRIu32 " 3 2 9\n", direction[i]);
     for (uint32_t n = 1;; n++) {
-        const struct recharge_day_record *d = &days[n % DAYS];
+        const struct recharge_day_record *d = &mixed[n % DAYS];
         int more = sprintf(line, "%" PRIu32 " %" PRIu32 " %" PRIu32 " %d %d %d %" PRIu32 "\n", n,
                            d->day_of_year, d->gross, d->minimum, d->mean, d->maximum, d->potential);
         if (at + more > (char *)text + TEXT_LONGEST)
@@ -214,14 +224,15 @@ int main(int argc, char **argv)
     make_covers();
     printf("%-22s %6s %12s %12s %8s %8s\n", "one day, in us", "cells", "fast C", "proved", "least", "median");
     make_closed(64, 64);
-    measure("closed cells", rounds);
+    measure("closed cells", mixed, rounds);
+    measure("all cells drying", drying, rounds);
     make_rows(64, 64);
-    measure("rows", rounds);
+    measure("rows", mixed, rounds);
     make_serpentine(64, 64);
-    measure("serpentine", rounds);
+    measure("serpentine", mixed, rounds);
     for (int k = 4; k >= 0; k--) {
         make_landscape(sizes[k][0], sizes[k][1]);
-        measure("landscape with lakes", rounds);
+        measure("landscape with lakes", mixed, rounds);
     }
 #ifdef THIRD_TEXT
     printf("%-22s %6s %12s %12s %8s %8s\n", "a whole text, in us", "cells", "fast C", "proved", "least", "median");
