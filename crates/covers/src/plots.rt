@@ -11,7 +11,6 @@ ghost use Rattle.paper.specs.Covers.{entries};
 ghost use Rattle.weather.specs.Today.{todayAs};
 ghost use Rattle.covers.specs.Plots.{sharedAs, sharedBy, plotNumber, plotsOf};
 use crate::slots::MOST_SLOTS;
-use crate::slots::number_at;
 use crate::table::CURVE_NUMBERS;
 use crate::table::DORMANT_FIGURE;
 use crate::table::ENTRY_NUMBERS;
@@ -19,6 +18,7 @@ use crate::table::GROWING_FIGURE;
 use crate::table::LARGEST_RECHARGES;
 use crate::table::OPEN_FLAG;
 use crate::table::ROOT_DEPTHS;
+use crate::table::entry_number;
 use records::CurveNumber;
 use records::Depth;
 use records::depth;
@@ -75,7 +75,8 @@ fn slot_day(today: Today, covers: &[u32], slot: usize) -> SlotDay
     ensures { λ r. ⌜ sharedAs r ≡ sharedBy (todayAs today) (now (covers .entry)) slot ⌝ }
 {
     let gross = today.gross;
-    if number_at(covers, slot, OPEN_FLAG) == 1 {
+    let e = slot / 4;
+    if entry_number(covers, e, OPEN_FLAG) == 1 {
         return SlotDay {
             intercepted: 0,
             rain: gross.0 as u32,
@@ -86,14 +87,14 @@ fn slot_day(today: Today, covers: &[u32], slot: usize) -> SlotDay
         };
     }
     let group = slot % 4 + 1;
-    let figure = number_at(covers, slot, season_figure(today.growing));
+    let figure = entry_number(covers, e, season_figure(today.growing));
     let intercepted = gross.smaller(depth(figure));
     let net = gross.beyond(intercepted);
-    let table = CurveNumber(number_at(covers, slot, CURVE_NUMBERS + group) as u64);
+    let table = CurveNumber(entry_number(covers, e, CURVE_NUMBERS + group) as u64);
     let condition = today.condition;
     let curve = curve_number(condition, table);
-    let root_depth = number_at(covers, slot, ROOT_DEPTHS + group);
-    let largest_recharge = number_at(covers, slot, LARGEST_RECHARGES + group);
+    let root_depth = entry_number(covers, e, ROOT_DEPTHS + group);
+    let largest_recharge = entry_number(covers, e, LARGEST_RECHARGES + group);
     let snows = today.snows;
     SlotDay {
         intercepted: intercepted.0 as u32,

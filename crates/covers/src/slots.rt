@@ -1,4 +1,5 @@
 // What the cover table says of a slot, 4 × an entry + a soil group - 1. Where the table has no such number it says 0.
+ghost use mathlib.Core.Bool.{cond};
 ghost use mathlib.Core.Path.{_≡_};
 ghost use Prim.Native.Nat.{_+_, _*_, _/_, _%_, _≤_, _<_};
 ghost use Rattle.theory.specs.Lists.{made};
@@ -46,18 +47,18 @@ pub fn is_open(covers: &[u32], slot: usize) -> bool
     number_at(covers, slot, OPEN_FLAG) == 1
 }
 
-// The number that stands `base` + the slot's soil group places on in its entry; none on open water.
-fn group_number(covers: &[u32], base: usize, slot: usize) -> u32
-    requires { ⌜ base ≤ 11 ⌝ }
-    ensures { λ r. ⌜ r ≡ groupNumberAt (now (covers .entry)) base slot ⌝ }
+// Number k of the slot's entry; none on open water.
+fn soil_number(covers: &[u32], lake: bool, slot: usize, k: usize) -> u32
+    requires { ⌜ k < 16 ⌝ }
+    ensures { λ r. ⌜ r ≡ cond lake 0 (numberOf (now (covers .entry)) (slot / 4) k) ⌝ }
 {
-    if is_open(covers, slot) {
+    if lake {
         return NO_SOIL;
     }
-    number_at(covers, slot, base + (slot % 4 + 1))
+    number_at(covers, slot, k)
 }
 
-// The root depth of every slot. Only the slots of which the table has a number are looked at: the others have none.
+// The root depth of every slot, an entry at a time. Only the slots of which the table has a number are looked at: the others have none.
 pub fn root_depths(covers: &[u32]) -> [u32; MOST_SLOTS]
     ensures { λ r. ⌜ r ≡ made 256 (groupNumberAt (now (covers .entry)) 11) ⌝ }
 {
@@ -68,8 +69,12 @@ pub fn root_depths(covers: &[u32]) -> [u32; MOST_SLOTS]
     }
     let mut slot = 0;
     while slot < slots {
-        roots[slot] = group_number(covers, ROOT_DEPTHS, slot);
-        slot += 1;
+        let lake = is_open(covers, slot);
+        roots[slot] = soil_number(covers, lake, slot, ROOT_DEPTHS + 1);
+        roots[slot + 1] = soil_number(covers, lake, slot, ROOT_DEPTHS + 2);
+        roots[slot + 2] = soil_number(covers, lake, slot, ROOT_DEPTHS + 3);
+        roots[slot + 3] = soil_number(covers, lake, slot, ROOT_DEPTHS + 4);
+        slot += 4;
     }
     roots
 }

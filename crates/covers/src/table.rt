@@ -50,12 +50,19 @@ fn size_fits(covers: &[u32]) -> bool
     (numbers % ENTRY_NUMBERS == 0) & ((1 <= count) & (count <= MOST_ENTRIES))
 }
 
-// Number k of entry e.
+// Number k of entry e, which the table has whole.
+pub(crate) fn entry_number(covers: &[u32], e: usize, k: usize) -> u32
+    requires { ⌜ (16 * e + 16 ≤ length (now covers)) × (k < 16) ⌝ }
+    ensures { λ r. ⌜ r ≡ numberOf (now (covers .entry)) e k ⌝ }
+{
+    covers[ENTRY_NUMBERS * e + k]
+}
+
 fn number_of(covers: &[u32], e: usize, k: usize) -> u64
     requires { ⌜ (16 * e + 16 ≤ length (now covers)) × (k < 16) ⌝ }
     ensures { λ r. ⌜ r ≡ numberOf (now (covers .entry)) e k ⌝ }
 {
-    wide(covers[ENTRY_NUMBERS * e + k])
+    wide(entry_number(covers, e, k))
 }
 
 fn code_of(covers: &[u32], e: usize) -> u64
