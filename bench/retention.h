@@ -1,5 +1,6 @@
 /* Made by make_retention.c: F(0) = 1,048,576, and each next entry is the one before
- * less its 256th part rounded down (document 01, rule 8). */
+ * less its 256th part rounded down (document 01, rule 8). Whole, and not each sixteenth:
+ * make_retention.c says why. */
 static const uint32_t retention[2049] = {
     1048576, 1044480, 1040400, 1036336, 1032288, 1028256, 1024240, 1020240, 1016255, 1012286,
     1008332, 1004394, 1000471, 996563, 992671, 988794, 984932, 981085, 977253, 973436,

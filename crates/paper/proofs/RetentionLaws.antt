@@ -21,6 +21,10 @@ F-next k = refl
 pub F-falls : (k : ℕ) → F (suc k) ≤ F k
 F-falls k = omega (arith, F-next k)
 
+-- the fall from an entry to the next is the entry's 256th part
+pub F-fall : (k : ℕ) → F k - F (suc k) ≡ F k / 256
+F-fall k = omega (arith, F-next k)
+
 pub F-most : (k : ℕ) → F k ≤ 1048576
 F-most zero = omega (arith, F-start)
 F-most (suc k) = le-trans (F-falls k) (F-most k)

@@ -74,7 +74,8 @@ pub(crate) fn downhill(
 {
     let n = available.len();
     let gross = today.gross;
-    let f = retention();
+    let mut f = [0u32; KNOTS];
+    retention(&mut f);
     let mut arrived = [0u32; MOST_CELLS];
     let mut totals = Totals::none();
     let mut turn = 0;

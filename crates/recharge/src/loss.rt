@@ -6,10 +6,12 @@ ghost use Rattle.paper.specs.Retention.{L, loss as rule8};
 ghost use Rattle.covers.specs.Slots.{mostCapacity};
 ghost use Rattle.retention.specs.Retention.{table};
 use records::Depth;
+use records::index_of;
 use records::wide;
 use retention::KNOTS;
 use retention::LAST_KNOT;
 use retention::WHOLE;
+use retention::retained;
 
 // L of the paper: the share of the soil's water that is lost, in parts of 1,048,576 × capacity. Nothing is rounded in it.
 fn share_lost(f: &[u32; KNOTS], capacity: Depth, shortfall: Depth) -> u64
@@ -17,16 +19,18 @@ fn share_lost(f: &[u32; KNOTS], capacity: Depth, shortfall: Depth) -> u64
     ensures { λ r. ⌜ r ≡ L (capacity .0) (shortfall .0) ⌝ }
 {
     let most = capacity.0;
-    let d = shortfall.0;
-    let parts = 256 * d;
-    let k = parts / most;
-    let i = k as usize;
+    // Both fit 32 bits, where a processor divides faster.
+    let parts = (256 * shortfall.0) as u32;
+    let room = most as u32;
+    let k = parts / room;
+    let rest = wide(parts - k * room);
+    let i = index_of(k);
+    let here = wide(retained(f, i));
     if i < LAST_KNOT {
-        let here = wide(f[i]);
-        let next = wide(f[i + 1]);
-        (WHOLE - here) * most + (here - next) * (parts - k * most)
+        // To the next knot F falls by its own 256th part.
+        (WHOLE - here) * most + here / 256 * rest
     } else {
-        (WHOLE - wide(f[LAST_KNOT])) * most
+        (WHOLE - here) * most
     }
 }
 

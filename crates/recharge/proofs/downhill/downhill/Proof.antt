@@ -20,6 +20,13 @@ abbrev μ-loop : tie.MeasureT-loop
 μ-loop today plots slots ways order available soil₀ snow₀ intercepted₀ outflow₀ evapotranspired₀ recharged₀ rejected₀ n gross f arrived₀ totals₀ turn₀ soil snow intercepted outflow evapotranspired recharged rejected arrived totals turn =
     length available - turn
 
+-- from before the loop, and from inside it, back to what was lent
+abbrev start : tie.After-none Inv-loop μ-loop → tie.Start Inv-loop μ-loop
+start c = c .before .before .before .before .before .before .before .before .before .before .before .before
+
+abbrev lent : tie.At-loop Inv-loop μ-loop → tie.Start Inv-loop μ-loop
+lent l = start (l .before)
+
 -- from a cell's figures back to its place in the order
 abbrev turned : tie.After-add-cell Inv-loop μ-loop → tie.After-index-of Inv-loop μ-loop
 turned c = c .before .before .before .before .before .before .before .before .before .before .before
@@ -30,11 +37,11 @@ small c = pass-small (c .before .before .before .loop .inv) (c .before .before .
 -- one entry a cell
 sized : (c : tie.After-add-cell Inv-loop μ-loop)
     → let l = turned c .before .before .before in
-    Sized (length (l .before .before .before .before .before .before .before .before .before .before .before .before .args .available .now))
+    Sized (length (lent l .args .available .now))
     (slicesOf (l .loop .soil) (l .loop .snow) (l .loop .intercepted) (l .loop .outflow) (l .loop .evapotranspired) (l .loop .recharged) (l .loop .rejected))
 sized c = pass-sized (turned c .before .before .before .loop .inv)
 
-inside : (c : tie.After-add-cell Inv-loop μ-loop) → turned c .index-of .result < length (turned c .before .before .before .before .before .before .before .before .before .before .before .before .before .before .before .args .available .now)
+inside : (c : tie.After-add-cell Inv-loop μ-loop) → turned c .index-of .result < length (lent (turned c .before .before .before) .args .available .now)
 inside c = let p = turned c in pass-inside (p .before .before .before .loop .inv) (p .before .before .loop-test .taken) _ (p .index-of .ensures)
 
 retention-requires : tie.Need-retention-requires Inv-loop μ-loop
@@ -44,7 +51,7 @@ none-requires : tie.Need-none-requires Inv-loop μ-loop
 none-requires c κs = search needs
 
 loop-holds : tie.Need-loop-holds Inv-loop μ-loop
-loop-holds c = pass-none (c .before .before .before .before .before .before .before .before .before .before .before .pre) _ (c .none .ensures) _ (c .before .retention .ensures)
+loop-holds c = pass-none (start c .pre) _ (c .none .ensures) _ (c .before .retention .ensures)
 
 mul-index-of : tie.Need-mul-index-of Inv-loop μ-loop
 mul-index-of c = omega (arith, c .loop-test .taken, c .before .loop .inv .ready .pointing .most)
