@@ -1,8 +1,8 @@
 /* recharge.h: a groundwater office's daily soil-water balance, proved, for C.
  *
  * A setup check, a fresh state, one day, and the program's whole text. What they do is the law of documents 01 and 02 (of 02:
- * M-106, frozen ground, M-100, melt in millimetres, and M-104, rejected recharge runs on downhill; docs/RULES.md has the rules in
- * plain words); that they do it, for every input, refused or not, is proved (crates/clib, docs/PROMISES.md). "Test" and "rule"
+ * M-106, frozen ground, M-100, melt in millimetres, and M-104, rejected recharge runs on downhill; M-102, a smaller program, moves
+ * no figure; docs/RULES.md has the rules in plain words); that they do it, for every input, refused or not, is proved (crates/clib, docs/PROMISES.md). "Test" and "rule"
  * numbers are document 01's.
  *
  * Build the library with `rt staticlib clib` and link target/staticlib/libclib.a, for x86-64 Linux. Of the C library it needs
