@@ -8,7 +8,7 @@ use Rattle.paper.specs.Retention.{F, L}
 use Rattle.paper.proofs.RetentionLaws.{F-fall, F-most, L-inside, L-past, L-most}
 use Rattle.covers.specs.Slots.{mostCapacity}
 
--- what is left past the knot is no more than there was
+-- what lies up to the knot is no more than there is, and fits 32 bits
 pub knot-passed : (C d : ℕ) → d ≤ mostPotential → (256 * d / C * C ≤ 256 * d) × (256 * d / C * C ≤ 5120000)
 knot-passed C d q = (div-mul-le-self (256 * d) C, omega (arith, div-mul-le-self (256 * d) C))
 

@@ -21,9 +21,9 @@ fn share_lost(f: &[u32; KNOTS], capacity: Depth, shortfall: Depth) -> u64
     let most = capacity.0;
     // Both fit 32 bits, where a processor divides faster.
     let parts = (256 * shortfall.0) as u32;
-    let room = most as u32;
-    let k = parts / room;
-    let rest = wide(parts - k * room);
+    let holds = most as u32;
+    let k = parts / holds;
+    let rest = wide(parts - k * holds);
     let i = index_of(k);
     let here = wide(retained(f, i));
     if i < LAST_KNOT {

@@ -45,8 +45,8 @@ mul-parts c = search needs
 cast-parts : tie.Need-cast-parts
 cast-parts c = search needs
 
-cast-room : tie.Need-cast-room
-cast-room c = search needs
+cast-holds : tie.Need-cast-holds
+cast-holds c = search needs
 
 div-k : tie.Need-div-k
 div-k c = search needs
@@ -99,7 +99,7 @@ share-lost-spec =
     (tie.spec
     mul-parts
     cast-parts
-    cast-room
+    cast-holds
     div-k
     mul-wide
     sub-wide
