@@ -1,13 +1,13 @@
 -- Rule 6: more water gives no less runoff and no less infiltration, and the form of the rule that fits 64 bits.
--- With a for the excess and K = 100,000(100 - c), the spread is a + K, so that the runoff is a² / (c(a + K)); where a is truncated to 0, both are 0.
--- An excess larger by t adds to that quotient at least 0 and at most t / c: (a + t)² (a + K) is between a² (a + K + t) and (a² + t (a + K)) (a + K + t), which exceeds it by t K².
+-- With a for what is beyond the abstraction and K = 100,000(100 - c), the spread is a + K, so that the runoff is a² / (c(a + K)); where a is truncated to 0, both are 0.
+-- An a larger by t adds to that quotient at least 0 and at most t / c: (a + t)² (a + K) is between a² (a + K + t) and (a² + t (a + K)) (a + K + t), which exceeds it by t K².
 use mathlib.Core.Logic.{_⊎_, inl, inr}
 use mathlib.Core.Path.{_≡_, ap}
 use Prim.Native.Nat.{ℕ, _+_, _-_, _*_, _/_, _≤_, _<_}
 use native.Mathlib.Nat.{eq-zero-or-pos, zero-add, zero-mul, mul-comm, div-zero, zero-div, add-mul-div-right, div-div-eq-div-mul, div-le-of-le-mul, add-sub-of-le, le-trans, mul-le-mul, mul-le-mul-left, sub-eq-zero-of-le}
 use native.Mathlib.Decide.{decLe}
 use native.Mathlib.Omega.{arith}
-use Rattle.paper.specs.Runoff.{excess, spread, runoff}
+use Rattle.paper.specs.Runoff.{beyondAbstraction, spread, runoff}
 use Rattle.paper.proofs.Divisions.{ratio}
 
 -- b = c(w - 80,000) + 8,000,000, with no subtraction cut short
@@ -15,24 +15,24 @@ pub spread-is : (c w : ℕ) → c ≤ 100 → spread c w + 80000 * c ≡ c * w +
 unfolding spread
 spread-is c w h = omega arith
 
-pub spread-excess : (c w : ℕ) → c ≤ 100 → 2000000 ≤ c * (w + 20000) → spread c w ≡ excess c w + 100000 * (100 - c)
-unfolding spread excess
-spread-excess c w p h = omega arith
+pub spread-beyond : (c w : ℕ) → c ≤ 100 → 2000000 ≤ c * (w + 20000) → spread c w ≡ beyondAbstraction c w + 100000 * (100 - c)
+unfolding spread beyondAbstraction
+spread-beyond c w p h = omega arith
 
 -- the paper's a ≤ 0
 pub runoff-none : (c w : ℕ) → c * (w + 20000) ≤ 2000000 → runoff c w ≡ 0
-unfolding runoff excess
+unfolding runoff beyondAbstraction
 runoff-none c w h = simp (sub-eq-zero-of-le h, zero-mul, zero-div)
 
 rule : ℕ → ℕ → ℕ → ℕ
 rule c K a = a * a / (c * (a + K))
 
-runoff-rule : (c w : ℕ) → c ≤ 100 → runoff c w ≡ rule c (100000 * (100 - c)) (excess c w)
-unfolding runoff rule excess
+runoff-rule : (c w : ℕ) → c ≤ 100 → runoff c w ≡ rule c (100000 * (100 - c)) (beyondAbstraction c w)
+unfolding runoff rule beyondAbstraction
 runoff-rule c w p = go (decLe 2000000 (c * (w + 20000)))
   where
-    go : Dec (2000000 ≤ c * (w + 20000)) → runoff c w ≡ rule c (100000 * (100 - c)) (excess c w)
-    go (yes h) = rw (spread-excess c w p h)
+    go : Dec (2000000 ≤ c * (w + 20000)) → runoff c w ≡ rule c (100000 * (100 - c)) (beyondAbstraction c w)
+    go (yes h) = rw (spread-beyond c w p h)
     go (no h) = let less : c * (w + 20000) ≤ 2000000 = omega arith in simp (sub-eq-zero-of-le less, zero-mul, zero-div)
 
 rule-more : (c K a t : ℕ) → rule c K a ≤ rule c K (a + t)
@@ -59,14 +59,14 @@ rule-rises : (c K : ℕ) {a b : ℕ} → a ≤ b → rule c K a ≤ rule c K b
 rule-rises c K {a} {b} h = rw (add-sub-of-le h) at (rule-more c K a (b - a))
 
 pub runoff-rises : {c w v : ℕ} → c ≤ 100 → w ≤ v → runoff c w ≤ runoff c v
-unfolding excess
+unfolding beyondAbstraction
 runoff-rises {c} {w} {v} p h =
     rw (runoff-rule c w p, runoff-rule c v p) (rule-rises c _ (omega (arith, mul-le-mul-left c h)))
 
 pub runoff-slack : (c w s : ℕ) → c ≤ 100 → runoff c (w + s) ≤ runoff c w + s
-unfolding excess
+unfolding beyondAbstraction
 runoff-slack c w s p =
-    rw (runoff-rule c w p, runoff-rule c (w + s) p) (le-trans (rule-rises c _ (omega arith)) (rule-slack c _ (excess c w) s))
+    rw (runoff-rule c w p, runoff-rule c (w + s) p) (le-trans (rule-rises c _ (omega arith)) (rule-slack c _ (beyondAbstraction c w) s))
 
 pub runoff-most : (c w : ℕ) → c ≤ 100 → runoff c w ≤ w
 runoff-most c w p =
@@ -84,14 +84,14 @@ square-64 K a p =
     rw (add-mul-div-right _ (2 * K) p, add-mul-div-right _ (a + K) p) at (ap (λ n. n / (a + K)) square)
 
 pub runoff-64 : (c w : ℕ) → 1 ≤ c → c ≤ 100 → 2000000 < c * (w + 20000) → runoff c w ≡ (spread c w + 100000 * (100 - c) * (100000 * (100 - c)) / spread c w - 2 * (100000 * (100 - c))) / c
-unfolding excess rule
+unfolding beyondAbstraction rule
 runoff-64 c w o p h =
     let K = 100000 * (100 - c) in
-    let a = excess c w in
+    let a = beyondAbstraction c w in
     let quotient : a * a / (a + K) ≡ a + K + K * K / (a + K) - 2 * K = omega (arith, square-64 K a (omega arith)) in
-    rw (spread-excess c w p (omega arith), runoff-rule c w p, mul-comm c (a + K), ← div-div-eq-div-mul (a * a) (a + K) c) (ap (λ q. q / c) quotient)
+    rw (spread-beyond c w p (omega arith), runoff-rule c w p, mul-comm c (a + K), ← div-div-eq-div-mul (a * a) (a + K) c) (ap (λ q. q / c) quotient)
 
 -- the subtraction in that form is never truncated
 pub runoff-64-room : (c w : ℕ) → c ≤ 100 → 2000000 < c * (w + 20000) → 2 * (100000 * (100 - c)) ≤ spread c w + 100000 * (100 - c) * (100000 * (100 - c)) / spread c w
-unfolding excess
-runoff-64-room c w p h = rw (spread-excess c w p (omega arith)) (omega (arith, square-64 (100000 * (100 - c)) (excess c w) (omega arith)))
+unfolding beyondAbstraction
+runoff-64-room c w p h = rw (spread-beyond c w p (omega arith)) (omega (arith, square-64 (100000 * (100 - c)) (beyondAbstraction c w) (omega arith)))

@@ -6,7 +6,7 @@ use native.Mathlib.Nat.{sub-le-sub-left}
 use native.Mathlib.Decide.{decLe}
 use native.Mathlib.Omega.{arith}
 use borrow.Author.Tests.{le-leb, lt-leb}
-use Rattle.paper.specs.Soil.{SoilDay, surplus, wetDay, dryDay, soilDay}
+use Rattle.paper.specs.Soil.{SoilDay, excess, wetDay, dryDay, soilDay}
 use Rattle.paper.proofs.RetentionLaws.{loss-soil, loss-potential, loss-rises-soil, loss-rises-d, left-rises, evaporation-rises}
 
 pub rule-7 : (C largest soil n E : ℕ) → E ≤ n → soilDay C largest soil n E ≡ wetDay C largest soil n E
@@ -27,7 +27,7 @@ by-rule C largest soil n E P wet dry = go (decLe E n)
 
 module _ (C largest soil n E : ℕ) where
   pub soil-account : soil + n ≡ soilDay C largest soil n E .evapotranspired + soilDay C largest soil n E .recharged + soilDay C largest soil n E .rejected + soilDay C largest soil n E .soil
-  unfolding wetDay dryDay surplus
+  unfolding wetDay dryDay excess
   soil-account =
       by-rule C largest soil n E (λ r. soil + n ≡ r .evapotranspired + r .recharged + r .rejected + r .soil)
       (λ h. omega arith)
@@ -38,7 +38,7 @@ module _ (C largest soil n E : ℕ) where
   soil-limit p = by-rule C largest soil n E (λ r. r .soil ≤ C) (λ h. omega arith) (λ h. omega arith)
 
   pub rejected-most : soil ≤ C → soilDay C largest soil n E .rejected ≤ n
-  unfolding wetDay dryDay surplus
+  unfolding wetDay dryDay excess
   rejected-most p = by-rule C largest soil n E (λ r. r .rejected ≤ n) (λ h. omega arith) (λ h. omega arith)
 
 pub record NoSmaller (a b : SoilDay) : Type 0 where
@@ -48,7 +48,7 @@ pub record NoSmaller (a b : SoilDay) : Type 0 where
   pub soil : a .soil ≤ b .soil
 
 pub soil-rises : (C largest soil soil' n n' E : ℕ) → soil ≤ soil' → soil' ≤ C → n ≤ n' → NoSmaller (soilDay C largest soil n E) (soilDay C largest soil' n' E)
-unfolding wetDay dryDay surplus
+unfolding wetDay dryDay excess
 soil-rises C largest soil soil' n n' E p q h = by-rule C largest soil n E (λ r. NoSmaller r (soilDay C largest soil' n' E)) wet dry
   where
     wet : E ≤ n → NoSmaller (wetDay C largest soil n E) (soilDay C largest soil' n' E)

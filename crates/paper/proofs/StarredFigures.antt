@@ -5,7 +5,7 @@ use mathlib.Core.Bool.{true, false}
 use lib.IntN.{pos}
 use Rattle.paper.specs.Snow.{fallsAsSnow, aboveFreezing, meltable}
 use Rattle.paper.specs.CurveNumber.{I, II, III, class, conditionOf, nearest, curveNumber}
-use Rattle.paper.specs.Runoff.{excess, spread, runoff}
+use Rattle.paper.specs.Runoff.{beyondAbstraction, spread, runoff}
 use Rattle.paper.specs.Retention.{F, between, L, loss}
 
 pub record Starred : Type 0 where
@@ -20,7 +20,7 @@ pub record Starred : Type 0 where
   pub 100-of-1234 : runoff 100 1234 ≡ 1234
   pub 80-of-50000 : runoff 80 50000 ≡ 28928
   pub 75-of-6667 : runoff 75 6667 ≡ 0
-  pub 75-of-6667-a : excess 75 6667 ≡ 25
+  pub 75-of-6667-a : beyondAbstraction 75 6667 ≡ 25
   pub 57-of-30000 : runoff 57 30000 ≡ 2461
   -- the condition by the growing season's five-day sum
   pub sum-14000 : conditionOf true 14000 ≡ II
@@ -50,7 +50,7 @@ unfolding
     conditionOf
     nearest
     curveNumber
-    excess
+    beyondAbstraction
     spread
     runoff
     F

@@ -14,8 +14,8 @@ use Rattle.paper.specs.Interception.{intercepted, net}
 use Rattle.paper.specs.Snow.{fallsAsSnow, aboveFreezing, meltable, melt}
 use Rattle.paper.specs.CurveNumber.{class, conditionOf, nearest, curveNumber}
 use Rattle.paper.specs.Frost.{floor, orZero, frostAfter, notDry, counted}
-use Rattle.paper.specs.Runoff.{excess, spread, runoff}
-use Rattle.paper.specs.Soil.{surplus, wetDay, dryDay, soilDay}
+use Rattle.paper.specs.Runoff.{beyondAbstraction, spread, runoff}
+use Rattle.paper.specs.Soil.{excess, wetDay, dryDay, soilDay}
 use Rattle.paper.specs.CellDay.{Today, today, figureOf, interceptedOf, netOf, rainOf, storeOf, meltOf, ownOf, runoffOf, groundOf, passedOf, Figures, openDay, landDay, cellDay}
 use Rattle.paper.specs.Flow.{arriving, waterFrom, water}
 use Rattle.paper.specs.Day.{passed, own, inflow, figures, isLeaving, isGone, Totals, totalsOf}
@@ -102,7 +102,7 @@ pub record WorkedDay : Type 0 where
 pub worked-day : WorkedDay
 unfolding
     orAt lowest sum given entries wayOf stepped cellAt goesBy cell cellsOf growing placeOr entryOf isOpen goes pointed next isClosed fiveDays intercepted
-    net fallsAsSnow aboveFreezing meltable melt class conditionOf nearest curveNumber floor orZero frostAfter notDry counted excess spread runoff surplus
+    net fallsAsSnow aboveFreezing meltable melt class conditionOf nearest curveNumber floor orZero frostAfter notDry counted beyondAbstraction spread runoff excess
     wetDay dryDay soilDay today figureOf interceptedOf netOf rainOf storeOf meltOf ownOf runoffOf groundOf passedOf openDay landDay cellDay arriving
     waterFrom water passed own inflow figures isLeaving isGone totalsOf
 worked-day =

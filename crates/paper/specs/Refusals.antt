@@ -1,6 +1,6 @@
 -- What comes back when it says no: the tests in the order of the numbers, each with its place.
 use mathlib.Core.Bool.{Bool, cond, not, _&&_}
-use mathlib.Core.List.{List, [], _∷_}
+use mathlib.Core.List.{List, [], _∷_, _++_}
 use Prim.Native.Nat.{ℕ, suc}
 use lib.Dec.{eqb, ltb}
 use lib.ListN.{length}
@@ -102,14 +102,21 @@ coverFits covers e = sizeFits covers && entryFits covers e
 abbrev pub coverTest : List ℕ → Test
 coverTest covers = record { places = coverPlaces covers; fails = λ e. not (coverFits covers e); called = coverTable }
 
--- tests 3 to 6
-unfoldable pub mapTests : Setup → List Test
-mapTests s =
-    coverTest (s .covers)
-    ∷ record { places = cells s; fails = λ i. not (cellFits s i); called = cellNumbers }
-    ∷ record { places = cells s; fails = λ i. onRing (cells s) (next s) i; called = ring }
+-- tests 3 and 4: the cover table, and each cell's own numbers
+abbrev pub tableTests : Setup → List Test
+tableTests s =
+    coverTest (s .covers) ∷ record { places = cells s; fails = λ i. not (cellFits s i); called = cellNumbers } ∷ []
+
+-- tests 5 and 6: rings, and the climate
+abbrev pub flowTests : Setup → List Test
+flowTests s =
+    record { places = cells s; fails = λ i. onRing (cells s) (next s) i; called = ring }
     ∷ single (climateFits (s .climate)) climate
     ∷ []
+
+-- tests 3 to 6
+unfoldable pub mapTests : Setup → List Test
+mapTests s = tableTests s ++ flowTests s
 
 -- tests 1 to 6, with the lengths of the lent slices
 unfoldable pub setupTests : Setup → List ℕ → List Test

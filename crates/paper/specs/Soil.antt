@@ -11,16 +11,16 @@ pub record SoilDay : Type 0 where
   pub soil : ℕ
 
 -- soil + n - E less the capacity
-unfoldable pub surplus : ℕ → ℕ → ℕ → ℕ → ℕ
-surplus C soil n E = soil + n - E - C
+unfoldable pub excess : ℕ → ℕ → ℕ → ℕ → ℕ
+excess C soil n E = soil + n - E - C
 
 -- rule 7, n ≥ E
 unfoldable pub wetDay : ℕ → ℕ → ℕ → ℕ → ℕ → SoilDay
 wetDay C largest soil n E =
     record {
       evapotranspired = E;
-      recharged = min (surplus C soil n E) largest;
-      rejected = surplus C soil n E - largest;
+      recharged = min (excess C soil n E) largest;
+      rejected = excess C soil n E - largest;
       soil = min (soil + n - E) C;
     }
 

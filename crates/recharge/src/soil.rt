@@ -33,11 +33,11 @@ fn wet_day(
     let n = infiltration.0;
     let e = potential.0;
     let reached = Depth(before + n - e);
-    let surplus = reached.beyond(capacity);
+    let excess = reached.beyond(capacity);
     SoilDay {
         evapotranspired: potential,
-        recharged: surplus.smaller(largest),
-        rejected: surplus.beyond(largest),
+        recharged: excess.smaller(largest),
+        rejected: excess.beyond(largest),
         soil: reached.smaller(capacity),
     }
 }

@@ -16,12 +16,12 @@ use Rattle.paper.specs.Day.{checkOf, freshAs, freshOf, passed, own, inflow, fig
 use Rattle.paper.specs.Directions.{wayOf, stepped, cellAt, goesBy}
 use Rattle.paper.specs.Flow.{arriving, waterFrom, water}
 use Rattle.paper.specs.Interception.{intercepted, net}
-use Rattle.paper.specs.Runoff.{excess, spread, runoff}
+use Rattle.paper.specs.Runoff.{beyondAbstraction, spread, runoff}
 use Rattle.paper.specs.Refusals.{numberOf, placeOf, single, judged, verdict, oneEach, setupLengths, coverPlaces, coverFits, mapTests, setupTests, stateFits, tooDeep, dayTests}
 use Rattle.paper.specs.Retention.{F, between, L, loss}
 use Rattle.paper.specs.Setup.{cellsOf, gridFits, seasonFits, setpointsFit, climateFits, growing, placeOr, entryOf, cellFits, isOpen, goes, pointed, next, isClosed, cell}
 use Rattle.paper.specs.Snow.{fallsAsSnow, aboveFreezing, meltable, melt}
-use Rattle.paper.specs.Soil.{surplus, wetDay, dryDay, soilDay}
+use Rattle.paper.specs.Soil.{excess, wetDay, dryDay, soilDay}
 use Rattle.paper.specs.State.{remembered, fiveDays, mostSoilOf, mostSnowOf, storesFit, memoryFits, lastFits, pastFits, dayFits, follows, freshState}
 use Rattle.text.specs.Examples.{lines, Agree, paperInput, examples}
 use Rattle.words.specs.Digits.{digitsWithin, digits, bytes}
@@ -49,5 +49,5 @@ unfolding lines bytes reading words pieces longer kept isBlank meant andThen num
 paper-read = refl
 
 pub examples-agree : Agree examples
-unfolding made orAt lowest isFound some sum given walk onRing today figureOf interceptedOf netOf rainOf storeOf meltOf ownOf runoffOf groundOf passedOf openDay landDay cellDay entries sizeFits groupFits rises entryFits class conditionOf floor orZero frostAfter notDry counted nearest curveNumber checkOf freshAs freshOf passed own inflow figures isLeaving isGone resultsOf totalsOf nextState lengthsOf verdictOf figuresOf outcomeAs dayOf wayOf stepped cellAt goesBy arriving waterFrom water intercepted net excess spread runoff numberOf placeOf single judged verdict oneEach setupLengths coverPlaces coverFits mapTests setupTests stateFits tooDeep dayTests F between L loss cellsOf gridFits seasonFits setpointsFit climateFits growing placeOr entryOf cellFits isOpen goes pointed next isClosed cell fallsAsSnow aboveFreezing meltable melt surplus wetDay dryDay soilDay remembered fiveDays mostSoilOf mostSnowOf storesFit memoryFits lastFits pastFits dayFits follows freshState lines Agree examples digitsWithin digits row dayLine bytes endLine refusedLine coverCount cellCount cellsFrom daysFrom dayCount isComplete groupGiven setup dayAt refusal noResults dayText daysText freshText startText runText screen screenText numbersText formText printed isBlank longer pieces kept words isDigit allDigits spelled isFirstDigit isCount isZero number andThen meant reading code codes signed
+unfolding made orAt lowest isFound some sum given walk onRing today figureOf interceptedOf netOf rainOf storeOf meltOf ownOf runoffOf groundOf passedOf openDay landDay cellDay entries sizeFits groupFits rises entryFits class conditionOf floor orZero frostAfter notDry counted nearest curveNumber checkOf freshAs freshOf passed own inflow figures isLeaving isGone resultsOf totalsOf nextState lengthsOf verdictOf figuresOf outcomeAs dayOf wayOf stepped cellAt goesBy arriving waterFrom water intercepted net beyondAbstraction spread runoff numberOf placeOf single judged verdict oneEach setupLengths coverPlaces coverFits mapTests setupTests stateFits tooDeep dayTests F between L loss cellsOf gridFits seasonFits setpointsFit climateFits growing placeOr entryOf cellFits isOpen goes pointed next isClosed cell fallsAsSnow aboveFreezing meltable melt excess wetDay dryDay soilDay remembered fiveDays mostSoilOf mostSnowOf storesFit memoryFits lastFits pastFits dayFits follows freshState lines Agree examples digitsWithin digits row dayLine bytes endLine refusedLine coverCount cellCount cellsFrom daysFrom dayCount isComplete groupGiven setup dayAt refusal noResults dayText daysText freshText startText runText screen screenText numbersText formText printed isBlank longer pieces kept words isDigit allDigits spelled isFirstDigit isCount isZero number andThen meant reading code codes signed
 examples-agree = (refl, (refl, (refl, (refl, (refl, (refl, (refl, (refl, (refl, (refl, (refl, (refl, (refl, (refl, (refl, (refl, (refl, (refl, (refl, (refl, (refl, (refl, (refl, (refl, (refl, (refl, tt))))))))))))))))))))))))))
