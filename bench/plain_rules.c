@@ -167,12 +167,12 @@ static void soil_rules(struct cell_day *c, int64_t n, int64_t e, int64_t capacit
     }
 }
 
-/* Rules 1 to 8. inflow is the sum of the outflows of all cells pointing here. */
+/* Rules 1 to 8. */
 struct cell_day plain_cell_rules(const struct setup *s, const struct recharge_day_record *day,
                                  enum plain_condition condition, uint32_t cell, struct way way,
                                  int64_t inflow, int64_t soil, int64_t snow)
 {
-    struct cell_day c = {.soil = soil, .snow = snow};
+    struct cell_day c = {.inflow = inflow, .soil = soil, .snow = snow};
 
     if (is_open_water(s, cell)) { /* rule 1: all else is 0 */
         c.outflow = day->gross + inflow;
@@ -190,13 +190,14 @@ struct cell_day plain_cell_rules(const struct setup *s, const struct recharge_da
     int64_t melt = plain_melt(c.snow, day->maximum);
     c.snow -= melt;
 
-    int64_t w = rain + melt + inflow; /* rule 4 */
+    c.w = rain + melt + inflow; /* rule 4 */
 
     int64_t number = plain_curve_number(of_group(s, cell, CURVE), condition); /* rule 5 */
 
-    int64_t runoff = way.goes == NOWHERE ? 0 : plain_runoff(number, w); /* rule 6 */
+    int64_t runoff = way.goes == NOWHERE ? 0 : plain_runoff(number, c.w); /* rule 6 */
+    c.infiltration = c.w - runoff;
 
-    soil_rules(&c, w - runoff, day->potential, capacity_of(s, cell), /* rules 7 and 8 */
+    soil_rules(&c, c.infiltration, day->potential, capacity_of(s, cell), /* rules 7 and 8 */
                of_group(s, cell, RECHARGE));
 
     /* M-104: rejected recharge joins the outflow. Only in a closed depression does it leave the

@@ -129,28 +129,30 @@ static inline uint64_t refusal(uint64_t number, uint64_t place)
 
 /* ---------------------------------------------------------------- parts in other files */
 
-/* Tests 1 to 6, then each of 7 to 10 (plain_tests.c): 0, or the refusal. `others` are the lengths of
- * the slices that a call was lent besides the setup's four. */
+/* Tests 1 to 6, then 7 to 10 (plain_tests.c): 0, or the refusal. `others` are the lengths of the
+ * slices that a call was lent besides the setup's four. */
 uint64_t plain_tests_1_to_6(const struct setup *s, const size_t *others, size_t others_count);
-uint64_t plain_test_7(const struct recharge_day_record *day);
-uint64_t plain_test_8(const struct recharge_day_record *day, uint32_t last_serial);
-uint64_t plain_test_9(const struct setup *s, const uint32_t *soil, const uint32_t *snow,
-                      const uint32_t *memory, uint32_t last_serial, uint32_t frost_index);
-uint64_t plain_test_10(const struct setup *s, const struct recharge_day_record *day, const uint32_t *snow);
+uint64_t plain_tests_7_to_10(const struct setup *s, const struct recharge_day_record *day, const uint32_t *soil,
+                             const uint32_t *snow, const uint32_t *memory, uint32_t last_serial, uint32_t frost_index);
 
 /* Rule 2 at a cell (plain_rules.c). */
 int64_t plain_interception_of(const struct setup *s, const struct recharge_day_record *day, uint32_t cell);
 
-/* One cell's stores and results of a day. */
+/* One cell's water, stores and results of a day. */
 struct cell_day {
+    int64_t inflow;          /* the sum of the outflows of all cells pointing here */
+    int64_t w, infiltration; /* rules 4 and 6; 0 on open water, which has no ground to reach */
     int64_t soil, snow;
     int64_t intercepted, outflow, evapotranspired, recharged, rejected;
 };
 
-/* Rules 1 to 8 (plain_rules.c). condition is the one that the day counts as; inflow is the sum of the
- * outflows of all cells pointing here. */
+/* Rules 1 to 8 (plain_rules.c). condition is the one that the day counts as. */
 struct cell_day plain_cell_rules(const struct setup *s, const struct recharge_day_record *day,
                                  enum plain_condition condition, uint32_t cell, struct way way,
                                  int64_t inflow, int64_t soil, int64_t snow);
+
+/* The same of every cell on a day that has passed the tests (plain.c): from the state before it. */
+void plain_all_cells(const struct setup *s, const struct recharge_day_record *day, const uint32_t *soil,
+                     const uint32_t *snow, const uint32_t *memory, uint32_t frost_index, struct cell_day *cells);
 
 #endif

@@ -133,7 +133,7 @@ static bool temperature_outside(int32_t t)
 }
 
 /* 7: a day value outside its limits. */
-uint64_t plain_test_7(const struct recharge_day_record *day)
+static uint64_t test_7(const struct recharge_day_record *day)
 {
     if (day->serial > LARGEST_SERIAL ||
         day->day_of_year < 1 || day->day_of_year > DAYS_IN_YEAR ||
@@ -147,7 +147,7 @@ uint64_t plain_test_7(const struct recharge_day_record *day)
 }
 
 /* 8: serial does not follow. */
-uint64_t plain_test_8(const struct recharge_day_record *day, uint32_t last_serial)
+static uint64_t test_8(const struct recharge_day_record *day, uint32_t last_serial)
 {
     if (last_serial != BALANCE_NO_SERIAL && (uint64_t)day->serial != (uint64_t)last_serial + 1)
         return refusal(8, 0);
@@ -156,8 +156,8 @@ uint64_t plain_test_8(const struct recharge_day_record *day, uint32_t last_seria
 
 /* 9: state outside its limits: the cell, or the cell count for memory, serial or frost index. (In a
  * day the last serial cannot fail here, since tests 7 and 8 come first.) */
-uint64_t plain_test_9(const struct setup *s, const uint32_t *soil, const uint32_t *snow,
-                      const uint32_t *memory, uint32_t last_serial, uint32_t frost_index)
+static uint64_t test_9(const struct setup *s, const uint32_t *soil, const uint32_t *snow,
+                       const uint32_t *memory, uint32_t last_serial, uint32_t frost_index)
 {
     uint32_t cells = cell_count(s);
 
@@ -178,7 +178,7 @@ uint64_t plain_test_9(const struct setup *s, const uint32_t *soil, const uint32_
 }
 
 /* 10: snowfall would take some store past 10,000,000, before the day's melt. */
-uint64_t plain_test_10(const struct setup *s, const struct recharge_day_record *day, const uint32_t *snow)
+static uint64_t test_10(const struct setup *s, const struct recharge_day_record *day, const uint32_t *snow)
 {
     if (!plain_falls_as_snow(day->minimum, day->mean, day->maximum))
         return 0;
@@ -187,4 +187,15 @@ uint64_t plain_test_10(const struct setup *s, const struct recharge_day_record *
             snow[cell] + (day->gross - plain_interception_of(s, day, cell)) > LARGEST_SNOW)
             return refusal(10, cell);
     return 0;
+}
+
+uint64_t plain_tests_7_to_10(const struct setup *s, const struct recharge_day_record *day, const uint32_t *soil,
+                             const uint32_t *snow, const uint32_t *memory, uint32_t last_serial, uint32_t frost_index)
+{
+    uint64_t no;
+
+    if ((no = test_7(day)) != 0) return no;
+    if ((no = test_8(day, last_serial)) != 0) return no;
+    if ((no = test_9(s, soil, snow, memory, last_serial, frost_index)) != 0) return no;
+    return test_10(s, day, snow);
 }

@@ -6,6 +6,7 @@
 
 enum {
     TEXT_LONGEST = 65536, /* the most bytes that the program accepts */
+    TEXT_DAY = 7,         /* numbers in one day */
     /* The program's setpoints of the frost index (M-106); its text has none. */
     TEXT_FIRST_SETPOINT = 56000,
     TEXT_SECOND_SETPOINT = 83000,

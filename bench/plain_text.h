@@ -1,0 +1,93 @@
+/* What the texts of the plain C share, `balance`'s (plain_text.c) and `why`'s (plain_why_text.c): the
+ * output, and a text taken up. */
+#ifndef PLAIN_TEXT_H
+#define PLAIN_TEXT_H
+
+#include "balance.h"
+#include "text.h"
+
+#include <assert.h>
+#include <stdbool.h>
+
+/* ---------------------------------------------------------------- output */
+
+struct output {
+    unsigned char *bytes;
+    size_t room, used;
+};
+
+static inline void put_byte(struct output *o, char byte)
+{
+    assert(o->used < o->room);
+    o->bytes[o->used++] = (unsigned char)byte;
+}
+
+static inline void put_word(struct output *o, const char *word)
+{
+    for (; *word != '\0'; word++)
+        put_byte(o, *word);
+}
+
+static inline void put_number(struct output *o, uint64_t number)
+{
+    if (number >= 10)
+        put_number(o, number / 10);
+    put_byte(o, (char)('0' + number % 10));
+}
+
+/* The last line: `end` and the count of days. */
+static inline size_t put_end(struct output *o, size_t days)
+{
+    put_word(o, "end ");
+    put_number(o, days);
+    put_byte(o, '\n');
+    return o->used;
+}
+
+/* The last line: `refused` number `at` place, of a refusal as the calls return it. */
+static inline size_t put_refused(struct output *o, uint64_t refusal)
+{
+    put_word(o, "refused ");
+    put_number(o, refusal >> 32);
+    put_word(o, " at ");
+    put_number(o, refusal & UINT32_MAX);
+    put_byte(o, '\n');
+    return o->used;
+}
+
+/* ---------------------------------------------------------------- a text taken up: plain_text.c */
+
+/* Is the token a number of 1 to 9 digits, a minus allowed, no leading zeros, no minus zero? */
+bool plain_number(const unsigned char *token, size_t length, int32_t *number);
+
+/* A text's setup and days, and the state and results of its run. */
+struct grid {
+    struct recharge_site site;
+    uint32_t covers[BALANCE_MAX_COVERS * BALANCE_ENTRY];
+    size_t covers_len, cells;
+    uint32_t direction[BALANCE_MAX_CELLS], cover[BALANCE_MAX_CELLS];
+    uint32_t group[BALANCE_MAX_CELLS], water[BALANCE_MAX_CELLS];
+    struct recharge_day_record day[TEXT_LONGEST / 2 / TEXT_DAY];
+    size_t days;
+    uint32_t soil[BALANCE_MAX_CELLS], snow[BALANCE_MAX_CELLS];
+    uint32_t memory[BALANCE_MEMORY], last_serial, frost_index;
+    uint32_t intercepted[BALANCE_MAX_CELLS], outflow[BALANCE_MAX_CELLS];
+    uint32_t evapotranspired[BALANCE_MAX_CELLS], recharged[BALANCE_MAX_CELLS];
+    uint32_t rejected[BALANCE_MAX_CELLS];
+    uint64_t totals[BALANCE_TOTALS];
+};
+
+#define GRID_SETUP(g)                                                                             \
+    (g)->site, (g)->covers, (g)->covers_len, (g)->direction, (g)->cells, (g)->cover, (g)->cells,  \
+        (g)->group, (g)->cells, (g)->water, (g)->cells
+#define GRID_STORES(g) (g)->soil, (g)->cells, (g)->snow, (g)->cells
+
+/* Length, form, test 1, the cover count, missing numbers: 0, and then the setup and the days stand in
+ * g, or the refusal. */
+uint64_t plain_take_up(const unsigned char *in, size_t n, struct grid *g);
+
+/* The fresh state, and one day, of a text that was taken up. */
+uint64_t plain_start(struct grid *g);
+uint64_t plain_run_day(struct grid *g, size_t day);
+
+#endif
