@@ -6,6 +6,7 @@ mod writing;
 pub use reading::Form;
 pub use reading::MOST_NUMBERS;
 pub use reading::NEGATIVES;
+pub use reading::NO_NUMBER;
 pub use reading::read;
 pub use telling::Told;
 pub use telling::tell;

@@ -18,7 +18,7 @@ pub enum Form {
 pub const NEGATIVES: u32 = 1000000000;
 
 // Past every code: a word that is no number.
-const NO_NUMBER: u32 = 2000000000;
+pub const NO_NUMBER: u32 = 2000000000;
 
 // The longest text that is read.
 const MOST_BYTES: usize = 65536;

@@ -2,6 +2,7 @@ pub mod ExampleLaws
 pub mod FieldLaws
 pub mod SignLaws
 pub mod ScreenLaws
+pub mod TakingLaws
 pub mod LayingLaws
 pub mod PrintedLaws
 pub mod OneDayLaws

@@ -2,8 +2,8 @@
 -- record.
 use mathlib.Core.Path.{_≡_, refl, sym, ap, _∙_}
 use mathlib.Core.List.{List, _∷_, _++_}
-use Prim.Native.Nat.{ℕ, zero, suc, _+_, _*_, _≤_}
-use native.Mathlib.Nat.{not-suc-le-zero, le-of-suc-le-suc}
+use Prim.Native.Nat.{ℕ, zero, suc, _+_, _*_, _≤_, min}
+use native.Mathlib.Nat.{not-suc-le-zero, le-of-suc-le-suc, add-zero}
 use lib.IntN.{ℤ}
 use lib.ListN.{length, getD, take, drop, replicate, length-replicate}
 use lib.Seq.{length-take-le, length-front, take-at}
@@ -11,10 +11,11 @@ use mir.Syntax.{w32}
 use mir.Val.{toZ, ofZ}
 use Rattle.paper.specs.Day.{Results}
 use Rattle.records.specs.Answers.{resultsAs}
-use Rattle.lines.specs.Reading.{signed}
 use Rattle.text.specs.Program.{daysFrom, dayAt, noResults}
+use Rattle.text.specs.Laying.{degrees, dayFrom}
 use Rattle.text.specs.Run.{Coded}
-use Rattle.text.proofs.SignLaws.{signed-kept}
+use Rattle.text.proofs.FieldLaws.{read-on}
+use Rattle.text.proofs.SignLaws.{small-degrees, degrees-kept}
 
 -- a part of an array of zeros is zeros, and has its own length
 pub zeros : (n m : ℕ) → n ≤ m → take n (replicate {A = ℕ} m 0) ≡ replicate n 0
@@ -75,30 +76,53 @@ module _ (n : ℕ) where
     rw (front i i′ (h .intercepted) a, front o o′ (h .outflow) b, front e e′ (h .evapotranspired) c, front r r′ (h .recharged) d, front j j′ (h .rejected) f) refl,
   )
 
--- a day's fields from its first number on, the temperatures as a record keeps them
-module _ (ns : List ℕ) (coded : Coded ns) (from k : ℕ) (start : from ≡ daysFrom ns) where
-  abbrev place : ℕ → ℕ
-  place i = from + 7 * k + i
-
+-- a day's fields as they are read from its place on, or from the numbers' end, the temperatures as a record keeps them
+module _ (ns : List ℕ) (from k at : ℕ) (placed : at ≡ min (from + 7 * k) (length ns)) where
   abbrev kept : ℤ → ℤ
   kept z = toZ w32 (ofZ w32 z)
 
-  degrees : (z : ℤ) (i : ℕ) → z ≡ signed (getD ns i 0) → kept z ≡ signed (getD ns i 0)
-  degrees z i e = signed-kept (getD ns i 0) (coded .small i) z e
+  abbrev place : ℕ → ℕ
+  place i = from + 7 * k + i
+
+  read : (x i : ℕ) → x ≡ getD ns (at + i) 0 → x ≡ getD ns (place i) 0
+  read x i e = e ∙ ap (λ (a : ℕ). getD ns (a + i) 0) placed ∙ read-on ns (from + 7 * k) i
+
+  degrees-at : (z : ℤ) (x i : ℕ) → x ≡ getD ns (at + i) 0 → z ≡ degrees x → kept z ≡ degrees (getD ns (place i) 0)
+  degrees-at z x i e d = degrees-kept (getD ns (place i) 0) z (d ∙ ap degrees (read x i e))
 
   pub day-fields :
-      (gross potential : ℕ) (minimum mean maximum : ℤ) → gross ≡ getD ns (place 2) 0 → minimum ≡ signed (getD ns (place 3) 0)
-      → mean ≡ signed (getD ns (place 4) 0) → maximum ≡ signed (getD ns (place 5) 0) → potential ≡ getD ns (place 6) 0
+      (serial dayOfYear gross minimum mean maximum potential g p : ℕ) (low middle high : ℤ)
+      → serial ≡ getD ns at 0 → dayOfYear ≡ getD ns (at + 1) 0
+      → gross ≡ getD ns (at + 2) 0 → g ≡ gross
+      → minimum ≡ getD ns (at + 3) 0 → low ≡ degrees minimum
+      → mean ≡ getD ns (at + 4) 0 → middle ≡ degrees mean
+      → maximum ≡ getD ns (at + 5) 0 → high ≡ degrees maximum
+      → potential ≡ getD ns (at + 6) 0 → p ≡ potential
       → record {
-        serial = getD ns (from + 7 * k) 0;
-        dayOfYear = getD ns (place 1) 0;
-        gross = gross;
-        minimum = kept minimum;
-        mean = kept mean;
-        maximum = kept maximum;
-        potential = potential;
+        serial = serial;
+        dayOfYear = dayOfYear;
+        gross = g;
+        minimum = kept low;
+        mean = kept middle;
+        maximum = kept high;
+        potential = p;
       }
-      ≡ dayAt ns k
-  unfolding dayAt
-  day-fields gross potential minimum mean maximum a b c d e =
-      rw (degrees minimum (place 3) b, degrees mean (place 4) c, degrees maximum (place 5) d, a, e, start) refl
+      ≡ dayFrom ns from k
+  unfolding dayFrom
+  day-fields serial dayOfYear gross minimum mean maximum potential g p low middle high s y a ga b lb c mc d hd e pe =
+      rw (
+        rw (add-zero (from + 7 * k)) at (read serial 0 (rw (add-zero at) s)),
+        read dayOfYear 1 y,
+        ga ∙ read gross 2 a,
+        degrees-at low minimum 3 b lb,
+        degrees-at middle mean 4 c mc,
+        degrees-at high maximum 5 d hd,
+        pe ∙ read potential 6 e,
+      )
+      refl
+
+-- of an input's numbers it is the paper's day
+pub coded-day : (ns : List ℕ) (from k : ℕ) → Coded ns → from ≡ daysFrom ns → dayFrom ns from k ≡ dayAt ns k
+unfolding dayFrom dayAt
+coded-day ns from k coded start =
+    rw (start, small-degrees (getD ns (daysFrom ns + 7 * k + 3) 0) (coded .small _), small-degrees (getD ns (daysFrom ns + 7 * k + 4) 0) (coded .small _), small-degrees (getD ns (daysFrom ns + 7 * k + 5) 0) (coded .small _)) refl

@@ -1,25 +1,27 @@
--- What is printed, by each way out of the program: one equation of the whole text for each, and what is read in the ways that lead there.
+-- What is printed, by each way out of the program: one equation of the whole text for each.
 use mathlib.Core.Path.{_≡_, refl, sym, ap, _∙_}
-use mathlib.Core.Bool.{Bool, true, false}
 use mathlib.Core.List.{List}
 use Prim.Native.Nat.{ℕ, _≤_, _<_}
 use native.Mathlib.Omega.{arith}
 use lib.Dec.{ltb}
-use lib.ListN.{length, take, replicate, length-replicate}
+use lib.ListN.{length, take}
 use lib.Seq.{length-sets}
 use borrow.Author.Tests.{lt-ltb, le-ltb}
 use Rattle.theory.proofs.Cases.{byCases, below-or-not}
 use Rattle.lines.specs.Lines.{refusedLine}
 use Rattle.text.specs.Program.{runText, screen, screenText, numbersText, formText, printed}
-use Rattle.lines.specs.Reading.{mostBytes, given, codes, mostNumbers, formIn, Read}
-use Rattle.text.specs.Run.{mostText, Coded, Printed}
+use Rattle.lines.specs.Reading.{mostBytes, given, codes}
+use Rattle.text.specs.Run.{mostText, Printed}
+use Rattle.text.specs.Taking.{takenIn, takenOf, TakenUp}
 use Rattle.lines.specs.Writing.{Wrote}
-use Rattle.lines.specs.declared.reading.Form.{Form}
-use Rattle.lines.specs.declared.reading.Form.the-variants.{Whole, Broken}
-use Rattle.text.specs.declared.screening.Screened.the-variants.{Refused, Ready}
+use Rattle.text.specs.declared.screening.Screened.{Screened}
+use Rattle.text.specs.declared.screening.Screened.the-variants as screened
+use Rattle.text.specs.declared.taking.Layout.{Layout}
+use Rattle.text.specs.declared.taking.Taken.{Taken}
+use Rattle.text.specs.declared.taking.Taken.the-variants.{Refused, Ready}
 use Rattle.text.specs.declared.program.Written.{Written}
 use Rattle.text.specs.declared.program.Written.the-variants.{NoRoom, Bytes}
-use Rattle.lines.proofs.ReadingLaws.{codes-length, front, codes-small}
+use Rattle.text.proofs.TakingLaws.{ReadyText}
 use Rattle.lines.proofs.WritingLaws.{wrote-as}
 
 -- what a function wrote is the whole text
@@ -28,14 +30,15 @@ pub whole-text :
     → Wrote mostText at ys before after next
 whole-text {ys = ys} e h w = wrote-as mostText ys w (sym e) (omega (arith, w .short, ap length e))
 
-module _ (ns : List ℕ) where
-  pub numbers-refused : (number place : ℕ) → screen ns ≡ Refused number place → numbersText ns ≡ refusedLine number place
-  unfolding numbersText screenText
-  numbers-refused number place e = rw e refl
+-- what is printed of a text that is taken up
+unfoldable takenText : List ℕ → Taken → List ℕ
+takenText ns (Refused number place) = refusedLine number place
+takenText ns (Ready layout) = runText ns
 
-  pub numbers-run : (cells : ℕ) → screen ns ≡ Ready cells → numbersText ns ≡ runText ns
-  unfolding numbersText screenText
-  numbers-run cells e = rw e refl
+screened-text : (ns : List ℕ) (s : Screened) → screenText ns s ≡ takenText ns (takenIn ns s)
+unfolding screenText takenIn takenText
+screened-text ns (screened.Refused number place) = refl
+screened-text ns (screened.Ready cells) = refl
 
 module _ (input : List ℕ) where
   -- length first, then form: of a text that is too long no number is read
@@ -43,51 +46,20 @@ module _ (input : List ℕ) where
   unfolding printed formText given
   of-given = byCases (ltb mostBytes (length input)) (λ e. rw e refl) (λ e. rw e refl)
 
-  good-form : given input .whole ≡ true → printed input ≡ numbersText (codes (given input .numbers))
-  unfolding formText
-  good-form e = of-given ∙ rw e refl
+  taken-text : printed input ≡ takenText (codes (given input .numbers)) (takenOf (given input))
+  unfolding formText numbersText takenOf takenText
+  taken-text =
+      let ns = codes (given input .numbers) in
+      of-given ∙ byCases (given input .whole) (λ e. rw e (screened-text ns (screen ns))) (λ e. rw e refl)
 
-  bad-form : given input .whole ≡ false → printed input ≡ refusedLine 11 (length (given input .numbers))
-  unfolding formText
-  bad-form e = of-given ∙ rw e refl
+  module _ (before after : List ℕ) (t : Taken) (up : TakenUp input before after t) where
+    pub text-refused : (number place : ℕ) → t ≡ Refused number place → printed input ≡ refusedLine number place
+    unfolding takenText
+    text-refused number place e = taken-text ∙ ap (takenText (codes (given input .numbers))) (sym (up .answer) ∙ e)
 
-  -- the input read into an array of zeros
-  module _ (after : List ℕ) (r : Form) (count : ℕ) (read : Read (given input) (replicate mostNumbers 0) after r) where
-    pub record Counted (text : List ℕ) : Type 0 where
-      pub room : count ≤ length after
-      pub counted : count ≡ length (take count after)
-      pub coded : Coded (take count after)
-      pub whole : text ≡ numbersText (take count after)
-
-    of-form : (whole : Bool) (n : ℕ) → formIn whole n ≡ Whole count → (whole ≡ true) × (n ≡ count)
-    unfolding formIn
-    of-form true n e = (refl, (cc))
-    of-form false n e = absurd (let z : _≡_ {A = ℕ} 0 1 = cc in omega arith)
-
-    of-fault : (whole : Bool) (n : ℕ) → formIn whole n ≡ Broken count → (whole ≡ false) × (n ≡ count)
-    unfolding formIn
-    of-fault true n e = absurd (let z : _≡_ {A = ℕ} 0 1 = cc in omega arith)
-    of-fault false n e = (refl, (cc))
-
-    pub read-whole : r ≡ Whole count → Counted (printed input)
-    read-whole e =
-        let f = of-form (given input .whole) (length (given input .numbers)) (sym (read .form) ∙ e) in
-        let zeros = length-replicate {A = ℕ} mostNumbers 0 in
-        let same : take count after ≡ codes (given input .numbers) =
-        ap (λ (n : ℕ). take n after) (sym (f .1)) ∙ front (given input) (replicate mostNumbers 0) after r zeros read
-        in
-        let long : length after ≡ mostNumbers = ap length (read .numbers) ∙ length-sets (replicate mostNumbers 0) 0 (codes (given input .numbers)) ∙ zeros in
-        record {
-          room = omega (arith, read .few, f .1);
-          counted = sym (ap length same ∙ codes-length (given input .numbers) ∙ f .1);
-          coded = rw same (record { few = omega (arith, codes-length (given input .numbers), read .few); small = codes-small input });
-          whole = good-form (f .0) ∙ ap numbersText (sym same);
-        }
-
-    pub read-broken : r ≡ Broken count → printed input ≡ refusedLine 11 count
-    read-broken e =
-        let f = of-fault (given input .whole) (length (given input .numbers)) (sym (read .form) ∙ e) in
-        bad-form (f .0) ∙ ap (refusedLine 11) (f .1)
+    pub text-runs : (layout : Layout) → t ≡ Ready layout → ReadyText input after layout → printed input ≡ runText (take (layout .numbers) after)
+    unfolding takenText
+    text-runs layout e ready = taken-text ∙ ap (takenText (codes (given input .numbers))) (sym (up .answer) ∙ e) ∙ ap runText (sym (ready .same))
 
   pub no-room : (before : List ℕ) → length before < mostText → Printed input before before NoRoom
   no-room before h =

@@ -2,7 +2,7 @@
 -- with the state and the results that the day before left.
 use mathlib.Core.Path.{_≡_, refl, sym, ap, _∙_}
 use mathlib.Core.List.{List, _∷_, _++_}
-use Prim.Native.Nat.{ℕ, suc, _+_, _-_, _*_, _/_, _≤_, _<_}
+use Prim.Native.Nat.{ℕ, suc, _+_, _*_, _≤_, _<_}
 use native.Mathlib.Numerals.{add-one}
 use native.Mathlib.Omega.{arith}
 use lib.ListN.{length, drop, length-append, drop-of-length-le}
@@ -14,13 +14,16 @@ use Rattle.paper.specs.Refusals.{Refusal, Verdict, accepted, refused}
 use Rattle.paper.specs.Setup.{Setup}
 use Rattle.paper.specs.State.{State, Day}
 use Rattle.lines.specs.Lines.{dayLine, endLine, refusal}
-use Rattle.text.specs.Program.{daysFrom, dayCount, dayAt, noResults, dayText, daysText}
+use Rattle.text.specs.Program.{dayCount, dayAt, noResults, dayText, daysText}
+use Rattle.text.specs.Laying.{dayFrom}
+use Rattle.text.specs.Taking.{layoutIn}
 use Rattle.text.specs.Run.{mostText, Coded}
 use Rattle.lines.specs.Telling.{lineOf, toldIn, Tells}
 use Rattle.lines.specs.Writing.{mostLine, mostEnd, Wrote}
 use Rattle.lines.specs.declared.telling.Told.{Told}
 use Rattle.lines.specs.declared.telling.Told.the-variants.{More, Last}
-use Rattle.text.proofs.OneDayLaws.{parts, Room}
+use Rattle.text.specs.declared.taking.Layout.{Layout}
+use Rattle.text.proofs.OneDayLaws.{parts, Room, coded-day}
 use Rattle.words.proofs.WritingLaws.{sets-append}
 use Rattle.lines.proofs.WritingLaws.{wrote-length}
 
@@ -67,9 +70,18 @@ few-days : (ns : List ℕ) → Coded ns → dayCount ns ≤ 4681
 unfolding dayCount
 few-days ns coded = omega (arith, coded .few)
 
-pub day-count : (ns : List ℕ) (from : ℕ) → from ≡ daysFrom ns → (length ns - from) / 7 ≡ dayCount ns
-unfolding dayCount
-day-count ns from e = ap (λ (i : ℕ). (length ns - i) / 7) e
+-- the days of a layout are those of its numbers, and few
+module _ (ns : List ℕ) (layout : Layout) (placed : layout ≡ layoutIn ns) where
+  pub day-count : layout .days ≡ dayCount ns
+  unfolding layoutIn
+  day-count = ap (λ (l : Layout). l .days) placed
+
+  pub this-day : (d : Day) (k : ℕ) → Coded ns → d ≡ dayFrom ns (layout .«days_from») k → d ≡ dayAt ns k
+  unfolding layoutIn
+  this-day d k coded e = e ∙ coded-day ns (layout .«days_from») k coded (ap (λ (l : Layout). l .«days_from») placed)
+
+  pub count-few : Coded ns → layout .days ≤ 4681
+  count-few coded = omega (arith, day-count, few-days ns coded)
 
 module _ (ns : List ℕ) (s : Setup) (st₀ : State) (r₀ : Results) (before now : List ℕ) (st : State) (r : Results) (at done k : ℕ) (coded : Coded ns) where
   abbrev days : List Day

@@ -1,5 +1,5 @@
 -- The tests before the run, one after another: what the ones passed say decides the screen down to the next.
-use mathlib.Core.Path.{_≡_, _∙_}
+use mathlib.Core.Path.{_≡_, refl, _∙_}
 use mathlib.Core.Bool.{Bool, true, false, _&&_}
 use mathlib.Core.List.{List}
 use Prim.Native.Nat.{ℕ, _+_, _*_, _-_, _%_, _≤_, _<_}
@@ -11,6 +11,7 @@ use Rattle.theory.proofs.Cases.{byCases, below-or-not, and-left, and-right}
 use Rattle.paper.specs.Setup.{cellsOf, gridFits}
 use Rattle.text.specs.Program.{field, coverCount, cellCount, cellsFrom, daysFrom, isComplete, setup, screen}
 use Rattle.text.specs.Run.{Complete}
+use Rattle.text.specs.Taking.{layoutIn}
 use Rattle.text.specs.declared.screening.Screened.the-variants.{Refused, Ready}
 
 -- the tests as the code has them
@@ -62,7 +63,8 @@ module _ (ns : List ℕ) where
           unfolding screen setup coverCount isComplete daysFrom cellsFrom cellCount
           is-ready e = simp (le-ltb (length ns) 2 two, grid, le-ltb (length ns) 5 five, covers, e)
 
-pub ready : (ns : List ℕ) (k : ℕ) → screen ns ≡ Ready k → Complete ns k
+-- numbers that pass are all there, and so many that every sum of them is small
+pub ready : (ns : List ℕ) (k : ℕ) → screen ns ≡ Ready k → (k ≡ cellCount ns) × Complete ns (layoutIn ns)
 unfolding coverCount cellCount daysFrom cellsFrom
 ready ns k e =
     below-or-not (length ns) 2 (λ h. never (too-few ns h))
@@ -75,13 +77,15 @@ ready ns k e =
     (λ covers.
     byCases (hasAll (length ns) (needs ns))
     (λ all.
-    let r : Ready (field ns 0 * field ns 1) ≡ Ready k = is-ready ns two grid five covers all ∙ e in
-    record {
-      counted = (cc);
-      cells = few-cells ns grid;
-      covers = few-covers ns covers;
-      numbers = leb-true (needs ns) (length ns) (and-left (leb (needs ns) (length ns)) (eqb ((length ns - needs ns) % 7) 0) all);
-    })
+    let r : Ready (field ns 0 * field ns 1) ≡ Ready k = is-ready ns two grid five covers all ∙ e in (
+      (cc),
+      record {
+        placed = refl;
+        cells = few-cells ns grid;
+        covers = few-covers ns covers;
+        numbers = leb-true (needs ns) (length ns) (and-left (leb (needs ns) (length ns)) (eqb ((length ns - needs ns) % 7) 0) all);
+      },
+    ))
     (λ f. never (cut-off ns two grid five covers f)))
     (λ f. never (bad-count ns two grid five f))))
     (λ f. never (no-grid ns two f)))

@@ -1,7 +1,7 @@
 -- A run's start: the slices laid out are the paper's setup, and the fresh state on them, or its refusal, decides the whole text.
 use mathlib.Core.Path.{_≡_, sym, ap, _∙_}
 use mathlib.Core.List.{List}
-use Prim.Native.Nat.{ℕ, _+_, _*_, _≤_}
+use Prim.Native.Nat.{ℕ}
 use native.Mathlib.Omega.{arith}
 use lib.ListN.{length, take, replicate}
 use Rattle.theory.specs.Lists.{made}
@@ -15,54 +15,35 @@ use Rattle.records.specs.declared.grids.Grid.{Grid}
 use Rattle.records.specs.declared.grids.Climate.{Climate}
 use Rattle.lines.specs.Lines.{refusal}
 use Rattle.text.specs.Laying.{gridIn, climateIn, Laid}
-use Rattle.text.specs.Program.{coverCount, cellCount, cellsFrom, daysFrom, dayCount, dayAt, setup, noResults, daysText, freshText, startText, runText}
+use Rattle.text.specs.Program.{cellCount, dayCount, dayAt, setup, noResults, daysText, freshText, startText, runText}
 use Rattle.text.specs.Run.{Coded, Complete, Lent, DaysReady}
+use Rattle.text.specs.declared.taking.Layout.{Layout}
+use Rattle.text.proofs.LayingLaws.{cells-counted, cells-fit}
 use Rattle.text.proofs.OneDayLaws.{zeros}
 
-pub five : (ns : List ℕ) → daysFrom ns ≤ length ns → 5 ≤ length ns
-unfolding daysFrom cellsFrom
-five ns h = omega arith
-
 -- the stores before the first day: a part of an array of zeros each
-module _ (ns : List ℕ) (cells : ℕ) (c : Complete ns cells) where
-  pub fits : cells ≤ 4096
-  fits = omega (arith, c .counted, c .cells)
-
+module _ (ns : List ℕ) (layout : Layout) (c : Complete ns layout) where
   abbrev part : List ℕ
-  part = take cells (replicate 4096 0)
+  part = take (layout .cells) (replicate 4096 0)
 
-  pub lent : Coded ns → Lent ns part part
-  lent coded =
-      record {
-        coded = coded;
-        numbers = c .numbers;
-        few = c .cells;
-        soils = zeros cells 4096 fits ∙ ap (λ (n : ℕ). replicate n 0) (c .counted);
-        snows = zeros cells 4096 fits ∙ ap (λ (n : ℕ). replicate n 0) (c .counted);
-      }
+  zeroed : part ≡ replicate (cellCount ns) 0
+  zeroed = zeros (layout .cells) 4096 (cells-fit ns layout c) ∙ ap (λ (n : ℕ). replicate n 0) (cells-counted ns layout c)
+
+  pub lent : Coded ns → Lent ns layout part part
+  lent coded = record { coded = coded; placed = c .placed; few = c .cells; soils = zeroed; snows = zeroed }
 
 module _
-    (ns covers direction cover group water soil snow : List ℕ)
+    (ns : List ℕ) (layout : Layout)
+    (covers direction cover group water soil snow : List ℕ)
     (laid : Laid ns covers direction cover group water)
-    (lent : Lent ns soil snow)
+    (lent : Lent ns layout soil snow)
   where
-    table-length : length covers ≡ 16 * coverCount ns
-    unfolding setup
-    table-length = ap length (laid .table) ∙ made-length _ _
-
     each : length direction ≡ cellCount ns
     unfolding setup
     each = ap length (laid .directions) ∙ made-length _ _
 
-    pub days-ready : DaysReady ns (5 + length covers + 4 * length direction) direction
-    unfolding daysFrom cellsFrom cellCount
-    days-ready =
-        record {
-          coded = lent .coded;
-          start = omega (arith, table-length, each);
-          numbers = lent .numbers;
-          few = omega (arith, each, lent .few);
-        }
+    pub days-ready : DaysReady ns layout direction
+    days-ready = record { coded = lent .coded; placed = lent .placed; few = omega (arith, each, lent .few) }
 
     module _ (grid : Grid) (climate : Climate) (gridded : grid ≡ gridIn ns) (told : climate ≡ climateIn ns) where
       abbrev here : paper.Setup

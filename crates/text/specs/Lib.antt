@@ -2,4 +2,5 @@
 pub mod Program
 pub mod Examples
 pub mod Laying
+pub mod Taking
 pub mod Run

@@ -9,6 +9,8 @@ use lib.Seq.{sets}
 use Rattle.paper.specs.Limits.{mostCells, mostCovers}
 use Rattle.lines.specs.Reading.{mostNumbers, noNumber}
 use Rattle.text.specs.Program.{coverCount, cellCount, daysFrom, printed}
+use Rattle.text.specs.Taking.{layoutIn}
+use Rattle.text.specs.declared.taking.Layout.{Layout}
 use Rattle.text.specs.declared.program.Written.{Written}
 use Rattle.text.specs.declared.program.Written.the-variants.{NoRoom, Bytes}
 
@@ -21,26 +23,25 @@ pub record Coded (ns : List ℕ) : Type 0 where
   pub few : length ns ≤ mostNumbers
   pub small : (k : ℕ) → getD ns k 0 < noNumber
 
--- numbers that are ready for the run, on so many cells
-pub record Complete (ns : List ℕ) (count : ℕ) : Type 0 where
-  pub counted : count ≡ cellCount ns
+-- numbers that are ready for the run, and where their parts stand
+pub record Complete (ns : List ℕ) (layout : Layout) : Type 0 where
+  pub placed : layout ≡ layoutIn ns
   pub cells : cellCount ns ≤ mostCells
   pub covers : coverCount ns ≤ mostCovers
   pub numbers : daysFrom ns ≤ length ns
 
--- what a run starts from: no number is missing, and both stores are zeros
-pub record Lent (ns soil snow : List ℕ) : Type 0 where
+-- what a run starts from: both stores are zeros
+pub record Lent (ns : List ℕ) (layout : Layout) (soil snow : List ℕ) : Type 0 where
   pub coded : Coded ns
-  pub numbers : daysFrom ns ≤ length ns
+  pub placed : layout ≡ layoutIn ns
   pub few : cellCount ns ≤ mostCells
   pub soils : soil ≡ replicate (cellCount ns) 0
   pub snows : snow ≡ replicate (cellCount ns) 0
 
--- the days of a run begin at `from`
-pub record DaysReady (ns : List ℕ) (from : ℕ) (direction : List ℕ) : Type 0 where
+-- what the days of a run ask for
+pub record DaysReady (ns : List ℕ) (layout : Layout) (direction : List ℕ) : Type 0 where
   pub coded : Coded ns
-  pub start : from ≡ daysFrom ns
-  pub numbers : daysFrom ns ≤ length ns
+  pub placed : layout ≡ layoutIn ns
   pub few : length direction ≤ mostCells
 
 -- the program's promise: without room nothing is written; else the whole text, from the buffer's front on, and its length, which is within the buffer

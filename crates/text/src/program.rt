@@ -1,16 +1,12 @@
-// The program's text as one function of the input: its length and form, the tests of its numbers, then the run.
-ghost use Rattle.text.specs.Program.{printed, numbersText};
-ghost use Rattle.text.specs.Run.{Printed, Coded, mostText};
+// The program's text as one function of the input: it is taken up, then run.
+ghost use Rattle.text.specs.Program.{printed};
+ghost use Rattle.text.specs.Run.{Printed, mostText};
 ghost use Rattle.lines.specs.Writing.{Wrote};
-use crate::screening::Screened;
-use crate::screening::TEXT;
-use crate::screening::screen;
 use crate::starting::started;
-use lines::Form;
+use crate::taking::Taken;
+use crate::taking::take_up;
 use lines::MOST_NUMBERS;
-use lines::read;
 use lines::refused;
-use lines::units;
 
 pub enum Written {
     // The buffer is shorter than the longest text.
@@ -22,25 +18,17 @@ pub enum Written {
 // Room for the longest text: specs/Run.antt says how it is made up.
 pub const MOST_TEXT: usize = 786461;
 
-// The numbers of a text of good form.
-fn screened(numbers: &[u32], output: &mut [u8]) -> usize
-    requires { ⌜ Coded (now numbers) ⌝ }
-    ensures { λ r. ⌜ Wrote mostText 0 (numbersText (now (numbers .entry))) (now (output .entry)) (now (output .exit)) r ⌝ }
-{
-    match screen(numbers) {
-        Screened::Refused(number, place) => refused(output, 0, number, place),
-        Screened::Ready(cells) => started(numbers, cells, output),
-    }
-}
-
 // The whole text.
 fn text(input: &[u8], output: &mut [u8]) -> usize
     ensures { λ r. ⌜ Wrote mostText 0 (printed (now (input .entry))) (now (output .entry)) (now (output .exit)) r ⌝ }
 {
     let mut numbers = [0u32; MOST_NUMBERS];
-    match read(input, &mut numbers) {
-        Form::Whole(count) => screened(&numbers[..count], output),
-        Form::Broken(count) => refused(output, 0, TEXT, units(count)),
+    match take_up(input, &mut numbers) {
+        Taken::Refused(number, place) => refused(output, 0, number, place),
+        Taken::Ready(layout) => {
+            let count = layout.numbers;
+            started(&numbers[..count], layout, output)
+        }
     }
 }
 

@@ -20,7 +20,7 @@ use Rattle.records.specs.Verdicts.{verdictAs}
 use Rattle.records.specs.Answers.{totalsAs, resultsAs}
 use Rattle.text.specs.Program.{dayCount, dayAt, noResults}
 use Rattle.text.proofs.OneDayLaws.{parts, Room, no-results, room, after, left}
-use Rattle.text.proofs.RunLaws.{Running, underway-first, day-count, all-told, told-last, told-more}
+use Rattle.text.proofs.RunLaws.{Running, underway-first, day-count, this-day, count-few, all-told, told-last, told-more}
 
 -- apart from the places, of which `omega` would read all that is known
 none-before : {n : ℕ} → 0 ≤ n
@@ -30,22 +30,22 @@ next-turn : {k n : ℕ} → k < n → k + 1 ≤ n
 next-turn h = omega arith
 
 abbrev Inv-loop : tie.InvT-loop
-Inv-loop numbers from grid climate covers direction cover group water soil₀ snow₀ output₀ n count intercepted₀ outflow₀ evapotranspired₀ recharged₀ rejected₀ past₀ at₀ done₀ k₀ soil snow output intercepted outflow evapotranspired recharged rejected past at done k =
+Inv-loop numbers grid climate covers direction cover group water soil₀ snow₀ output₀ n from count intercepted₀ outflow₀ evapotranspired₀ recharged₀ rejected₀ past₀ at₀ done₀ k₀ soil snow output intercepted outflow evapotranspired recharged rejected past at done k =
     Running n count (setupAs grid climate covers direction cover group water) (stateAs soil₀ snow₀ past₀) (made (dayCount numbers) (dayAt numbers)) output₀ output
     (stateAs soil snow past) intercepted outflow evapotranspired recharged rejected at done k
 
 abbrev μ-loop : tie.MeasureT-loop
-μ-loop numbers from grid climate covers direction cover group water soil₀ snow₀ output₀ n count intercepted₀ outflow₀ evapotranspired₀ recharged₀ rejected₀ past₀ at₀ done₀ k₀ soil snow output intercepted outflow evapotranspired recharged rejected past at done k =
+μ-loop numbers grid climate covers direction cover group water soil₀ snow₀ output₀ n from count intercepted₀ outflow₀ evapotranspired₀ recharged₀ rejected₀ past₀ at₀ done₀ k₀ soil snow output intercepted outflow evapotranspired recharged rejected past at done k =
     count - k
 
 -- the places that the needs name: from a day's telling back to the library's day, its numbers, the loop's head and the start
 abbrev day : tie.After-tell Inv-loop μ-loop → tie.After-day Inv-loop μ-loop
 day tell = tell .before .before .before .before .before .before .before .before .before .before .before
 
-abbrev date : tie.After-day Inv-loop μ-loop → tie.After-day-at Inv-loop μ-loop
+abbrev date : tie.After-day Inv-loop μ-loop → tie.After-day-in Inv-loop μ-loop
 date day = day .before .before .before .before .before .before .before .before
 
-abbrev head : tie.After-day-at Inv-loop μ-loop → tie.At-loop Inv-loop μ-loop
+abbrev head : tie.After-day-in Inv-loop μ-loop → tie.At-loop Inv-loop μ-loop
 head date = date .before .before
 
 abbrev start : tie.At-loop Inv-loop μ-loop → tie.Start Inv-loop μ-loop
@@ -96,9 +96,6 @@ held e =
     (part e .intercepted) (part e .outflow) (part e .evapotranspired) (part e .recharged) (part e .rejected)
     (h .loop .inv .room) (kept .0) (kept .1 .0) (kept .1 .1 .0) (kept .1 .1 .1 .0) (kept .1 .1 .1 .1 .0)
 
-sub-count : tie.Need-sub-count Inv-loop μ-loop
-sub-count c = let p = c .before .before .before .before .before .before .before .before .before .pre in omega (arith, p .start, p .numbers)
-
 loop-holds : tie.Need-loop-holds Inv-loop μ-loop
 loop-holds c = let few = c .before .before .before .before .before .before .before .before .before .pre .few in
     record {
@@ -109,8 +106,8 @@ loop-holds c = let few = c .before .before .before .before .before .before .befo
       underway = underway-first _ _ _ _ _ _ (no-results _ 4096 few);
     }
 
-day-at-requires : tie.Need-day-at-requires Inv-loop μ-loop
-day-at-requires c κs = let p = start (c .before) .pre in (p .coded, p .start, omega (arith, p .numbers, p .start, c .loop-test .taken))
+day-in-requires : tie.Need-day-in-requires Inv-loop μ-loop
+day-in-requires c κs = search needs
 
 array-borrow-prefix-intercepted : tie.Need-array-borrow-prefix-intercepted Inv-loop μ-loop
 array-borrow-prefix-intercepted c = head (c .before .before) .loop .inv .room .intercepted
@@ -166,8 +163,14 @@ same-length-3 : tie.Need-same-length-3 Inv-loop μ-loop
 same-length-3 c = omega (arith, head (date (day (c .before .before .before .before .before))) .loop .inv .underway .long)
 
 -- the day is one of the run's
-more : (at : tie.After-day-at Inv-loop μ-loop) → head at .loop .k < dayCount (start (head at) .args .numbers .now)
-more at = let s = start (head at) in omega (arith, day-count (s .args .numbers .now) _ (s .pre .start), at .before .loop-test .taken)
+more : (at : tie.After-day-in Inv-loop μ-loop) → head at .loop .k < dayCount (start (head at) .args .numbers .now)
+more at = let s = start (head at) in omega (arith, day-count (s .args .numbers .now) _ (s .pre .placed), at .before .loop-test .taken)
+
+this : (at : tie.After-day-in Inv-loop μ-loop) → dayAs (at .day-in .result) ≡ dayAt (start (head at) .args .numbers .now) (head at .loop .k)
+this at = let s = start (head at) in this-day (s .args .numbers .now) (s .args .layout) (s .pre .placed) (dayAs (at .day-in .result)) (head at .loop .k) (s .pre .coded) (at .day-in .ensures)
+
+few : (at : tie.After-day-in Inv-loop μ-loop) → head at .loop .k < 4681
+few at = let s = start (head at) in omega (arith, count-few (s .args .numbers .now) (s .args .layout) (s .pre .placed) (s .pre .coded), at .before .loop-test .taken)
 
 returns : tie.Need-returns Inv-loop μ-loop
 returns c = let told = c .before in
@@ -177,16 +180,16 @@ returns c = let told = c .before in
     let h = head at in
     told-last (start h .args .numbers .now) (setup h) (first h) (noResults (cells h)) (start h .args .output .now) (h .loop .output) (state h) (results h)
     (h .loop .at) (h .loop .done) (h .loop .k) (start h .pre .coded) (h .loop .inv .underway)
-    (dayAs (at .day-at .result)) (at .day-at .ensures) (more at)
+    (dayAs (at .day-in .result)) (this at) (more at)
     (verdictAs (e .day .result .verdict)) (part e) (totalsAs (e .day .result .totals)) (state′ e) _ _ _
     (e .day .ensures) (tell .tell .ensures) (told .next2 .given .1)
 
 add-done : tie.Need-add-done Inv-loop μ-loop
 add-done c = let at = date (day (c .before .before .before .before .before .before)) in
-    omega (arith, head at .loop .inv .underway .counted, at .before .loop-test .taken, start (head at) .pre .coded .few)
+    omega (arith, head at .loop .inv .underway .counted, few at)
 
 add-k : tie.Need-add-k Inv-loop μ-loop
-add-k c = let at = date (day (c .before .before .before .before .before .before)) in omega (arith, at .before .loop-test .taken, start (head at) .pre .coded .few)
+add-k c = omega (arith, few (date (day (c .before .before .before .before .before .before))))
 
 loop-less : tie.Need-loop-less Inv-loop μ-loop
 loop-less c = omega (arith, date (day (c .before .before .before .before .before .before)) .before .loop-test .taken)
@@ -205,7 +208,7 @@ loop-again c = let told = c .before .before in
       underway =
           told-more (start h .args .numbers .now) (setup h) (first h) (noResults (cells h)) (start h .args .output .now) (h .loop .output) (state h) (results h)
           (h .loop .at) (h .loop .done) (h .loop .k) (start h .pre .coded) (h .loop .inv .underway)
-          (dayAs (at .day-at .result)) (at .day-at .ensures) (more at)
+          (dayAs (at .day-in .result)) (this at) (more at)
           (verdictAs (e .day .result .verdict)) (part e) _ (totalsAs (e .day .result .totals)) (state′ e) _ _ _
           (held e .1) (e .day .ensures) (tell .tell .ensures) (told .next .given .1);
     }
@@ -226,7 +229,7 @@ returns-2 : tie.Need-returns-2 Inv-loop μ-loop
 returns-2 c = let ended = c .before .before in
     let last = ended .before .before .before in
     let ns = start last .args .numbers .now in
-    let count = day-count ns _ (start last .pre .start) in
+    let count = day-count ns _ (start last .pre .placed) in
     all-told ns _ _ _ _ _ _ _ _ _ _ (start last .pre .coded) (last .loop .inv .underway) _ _
     (omega (arith, count, ended .before .before .loop-test .left)) (omega (arith, count, last .loop .inv .within)) (ended .ended .ensures)
 
@@ -236,9 +239,8 @@ days-spec =
     (tie.spec
     Inv-loop
     μ-loop
-    sub-count
     loop-holds
-    day-at-requires
+    day-in-requires
     array-borrow-prefix-intercepted
     slice-aggregate-day
     array-borrow-prefix-outflow

@@ -1,76 +1,48 @@
--- `program::text` meets its contract: form and numbers each have their text, and what was read are the codes of the input's numbers.
+-- `program::text` meets its contract: a text that is taken up is refused or run, and numbers that are ready have what the run asks for.
 use borrow.Author.Needs.{needs}
 use Rattle.text.proofs.program.text.Statement.{statement}
 use Rattle.text.proofs.program.text.Tie as tie
-use mathlib.Core.Path.{ap, sym, _∙_}
+use Prim.Native.Nat.{ℕ}
 use native.Mathlib.Omega.{arith}
-use Rattle.lines.specs.Lines.{refusedLine}
-use Rattle.text.proofs.PrintedLaws.{whole-text, read-whole, read-broken}
+use lib.ListN.{length-replicate}
+use Rattle.text.proofs.PrintedLaws.{whole-text, text-refused, text-runs}
+use Rattle.text.proofs.TakingLaws.{ReadyText, ready-text}
 
-read-requires : tie.Need-read-requires
-read-requires c κs = search needs
-
-enum-known-count : tie.Need-enum-known-count
-enum-known-count c = search needs
+-- what a text that is ready has
+ready : (c : tie.After-layout) → ReadyText (c .before .before .before .before .before .before .args .input .now) (c .before .before .take-up .last .1 .0) (c .layout .given .0 .0)
+ready c = ready-text _ _ _ _ _ (length-replicate {A = ℕ} 32768 0) (c .before .before .take-up .ensures) (c .layout .given .1)
 
 array-share-prefix-numbers : tie.Need-array-share-prefix-numbers
-array-share-prefix-numbers c = let told = c .before in
-    let read = told .before .before in
-    read-whole _ _ _ _ (read .read .ensures) (told .count .given .1) .room
+array-share-prefix-numbers c = ready (c .before) .room
 
-slice-aggregate-screened : tie.Need-slice-aggregate-screened
-slice-aggregate-screened c = let told = c .before .before in
-    let read = told .before .before in
-    read-whole _ _ _ _ (read .read .ensures) (told .count .given .1) .counted
+slice-aggregate-started : tie.Need-slice-aggregate-started
+slice-aggregate-started c = ready (c .before .before) .counted
 
-screened-requires : tie.Need-screened-requires
-screened-requires c κs = let told = c .before .before .before in
-    let read = told .before .before in
-    read-whole _ _ _ _ (read .read .ensures) (told .count .given .1) .coded
-
-enum-known-count-2 : tie.Need-enum-known-count-2
-enum-known-count-2 c = search needs
-
-units-requires : tie.Need-units-requires
-units-requires c κs = search needs
-
-refused-requires : tie.Need-refused-requires
-refused-requires c κs = search needs
-
-same-length : tie.Need-same-length
-same-length c = search needs
+started-requires : tie.Need-started-requires
+started-requires c κs = let r = ready (c .before .before .before) in (r .complete, r .coded)
 
 returns : tie.Need-returns
-returns c = let screened = c .before .before in
-    let told = screened .before .before .before .before in
-    let read = told .before .before in
-    whole-text (read-whole _ _ _ _ (read .read .ensures) (told .count .given .1) .whole) (omega arith) (screened .screened .ensures)
-
-same-length-2 : tie.Need-same-length-2
-same-length-2 c = search needs
+returns c = let refused = c .before .before in
+    let told = refused .before .before .before in
+    whole-text (text-refused _ _ _ _ (told .before .before .take-up .ensures) _ _ (told .number .given .1)) (omega arith) (refused .refused .ensures)
 
 returns-2 : tie.Need-returns-2
-returns-2 c = let refused = c .before .before in
-    let told = refused .before .before .before .before in
-    let read = told .before .before in
-    whole-text
-    (read-broken _ _ _ _ (read .read .ensures) (told .count2 .given .1) ∙ ap (refusedLine 11) (sym (refused .before .units .ensures)))
-    (omega arith)
-    (refused .refused .ensures)
+returns-2 c = let started = c .before .before in
+    let told = started .before .before .before .before in
+    whole-text (text-runs _ _ _ _ (told .before .before .take-up .ensures) _ (told .layout .given .1) (ready told)) (omega arith) (started .started .ensures)
 
 pub text-spec : {M : Type 1} → statement M
 text-spec =
     tie.close
     (tie.spec
-    read-requires
-    enum-known-count
+    (λ c κs. search needs)
+    (λ c. search needs)
+    (λ c κs. search needs)
+    (λ c. search needs)
     array-share-prefix-numbers
-    slice-aggregate-screened
-    screened-requires
-    enum-known-count-2
-    units-requires
-    refused-requires
-    same-length
+    slice-aggregate-started
+    started-requires
+    (λ c. search needs)
     returns
-    same-length-2
+    (λ c. search needs)
     returns-2)

@@ -8,7 +8,7 @@ use Rattle.paper.specs.State.{State}
 use Rattle.records.specs.Past.{stateAs}
 use Rattle.records.specs.Verdicts.{verdictAs}
 use Rattle.text.proofs.PrintedLaws.{whole-text}
-use Rattle.text.proofs.StartLaws.{five, days-ready, start-refused, start-runs}
+use Rattle.text.proofs.StartLaws.{days-ready, start-refused, start-runs}
 
 -- the places that the needs name: from the stores after the fresh state back to it, the climate read and the start
 abbrev fresh : tie.After-slice-known5 → tie.After-fresh
@@ -32,16 +32,16 @@ abbrev left : tie.After-fresh → State
 left f = stateAs (f .fresh .last .1 .1 .1 .1 .1 .1 .1 .0) (f .fresh .last .1 .1 .1 .1 .1 .1 .1 .1 .0) (f .fresh .result .past)
 
 grid-in-requires : tie.Need-grid-in-requires
-grid-in-requires c κs = five _ (c .before .before .before .before .before .before .before .before .before .pre .1 .numbers)
+grid-in-requires c κs = search needs
 
 climate-in-requires : tie.Need-climate-in-requires
-climate-in-requires c κs = five _ (c .before .before .before .before .before .before .before .before .before .before .pre .1 .numbers)
+climate-in-requires c κs = search needs
 
 refusal-requires : tie.Need-refusal-requires
 refusal-requires c κs = search needs
 
 days-requires : tie.Need-days-requires
-days-requires c κs = let p = start (climate (fresh (c .before .before .before .before .before .before))) .pre in days-ready _ _ _ _ _ _ _ _ (p .0) (p .1)
+days-requires c κs = let p = start (climate (fresh (c .before .before .before .before .before .before))) .pre in days-ready _ _ _ _ _ _ _ _ _ (p .0) (p .1)
 
 returns : tie.Need-returns
 returns c = let refusal = c .before .before in
@@ -50,7 +50,7 @@ returns c = let refusal = c .before .before in
     let at = climate (fresh lent) in
     let p = start at .pre in
     whole-text
-    (start-refused _ _ _ _ _ _ _ _ (p .0) (p .1) _ _ (at .before .grid-in .ensures) (at .climate-in .ensures) (left (fresh lent)) (verdictAs (fresh lent .fresh .result .verdict)) _
+    (start-refused _ _ _ _ _ _ _ _ _ (p .0) (p .1) _ _ (at .before .grid-in .ensures) (at .climate-in .ensures) (left (fresh lent)) (verdictAs (fresh lent .fresh .result .verdict)) _
     (fresh lent .fresh .ensures) (ap verdictAs (told .verdict .given .1)))
     (omega arith)
     (refusal .refusal .ensures)
@@ -62,19 +62,10 @@ returns-2 c = let days = c .before .before .before .before .before .before in
     let at = climate (fresh lent) in
     let p = start at .pre in
     whole-text
-    (start-runs _ _ _ _ _ _ _ _ (p .0) (p .1) _ _ (at .before .grid-in .ensures) (at .climate-in .ensures) (left (fresh lent)) (verdictAs (fresh lent .fresh .result .verdict))
+    (start-runs _ _ _ _ _ _ _ _ _ (p .0) (p .1) _ _ (at .before .grid-in .ensures) (at .climate-in .ensures) (left (fresh lent)) (verdictAs (fresh lent .fresh .result .verdict))
     (fresh lent .fresh .ensures) (ap verdictAs (told .enum-told .given .1)))
     (omega arith)
     (days .days .ensures)
-
-add-from : tie.Need-add-from
-add-from c = search needs
-
-mul-from : tie.Need-mul-from
-mul-from c = search needs
-
-add-from-2 : tie.Need-add-from-2
-add-from-2 c = search needs
 
 fresh-requires : tie.Need-fresh-requires
 fresh-requires c κs = search needs
@@ -109,9 +100,6 @@ begun-spec =
     (tie.spec
     grid-in-requires
     climate-in-requires
-    add-from
-    mul-from
-    add-from-2
     fresh-requires
     enum-known-verdict
     refusal-requires
