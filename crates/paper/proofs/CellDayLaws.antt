@@ -84,7 +84,7 @@ module _ (c : Cell) (t : Today) where
   unfolding passedOf
   passed-closed soil w e f = cond-false (c .open?) e _ _ ∙ cond-true (c .closed?) f _ _
 
-  passed-on : (soil w : ℕ) → c .open? ≡ false → c .closed? ≡ false → passedOf c t soil w ≡ runoffOf c t w + groundOf c t soil w .rejected
+  pub passed-on : (soil w : ℕ) → c .open? ≡ false → c .closed? ≡ false → passedOf c t soil w ≡ runoffOf c t w + groundOf c t soil w .rejected
   unfolding passedOf
   passed-on soil w e f = cond-false (c .open?) e _ _ ∙ cond-false (c .closed?) f _ _
 
@@ -148,7 +148,7 @@ module _ (c : Cell) (t : Today) where
       byCases (c .open?) (λ e. omega (arith, own-open snow e))
       (λ e. omega (arith, own-land snow e, gross-and-net, given-most (not (t .snows?)) (netOf c t)))
 
-  runoff-within : (w : ℕ) → curveNumber (t .condition) (c .N) ≤ 100 → runoffOf c t w ≤ w
+  pub runoff-within : (w : ℕ) → curveNumber (t .condition) (c .N) ≤ 100 → runoffOf c t w ≤ w
   runoff-within w small = runoff-by (λ out. out w ≤ w) zero-le (runoff-most _ w small)
 
   -- rejected recharge leaves the balance in a closed depression alone

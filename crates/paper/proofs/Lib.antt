@@ -19,3 +19,6 @@ pub mod StarredFigures
 pub mod EdgeFigures
 pub mod FrostFigures
 pub mod WorkedDay
+pub mod ReasonLaws
+pub mod ReadBackLaws
+pub mod WhyFigures

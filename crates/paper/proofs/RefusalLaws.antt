@@ -4,7 +4,7 @@
 use mathlib.Core.Path.{_≡_, refl, sym, ap, _∙_, subst}
 use mathlib.Core.Bool.{Bool, true, false, cond, true≢false, false≢true}
 use mathlib.Core.List.{List, [], _∷_, _++_}
-use Prim.Native.Nat.{ℕ, zero, suc, _+_, _<_, suc-le-suc}
+use Prim.Native.Nat.{ℕ, zero, suc, _+_, _≤_, _<_, suc-le-suc}
 use native.Mathlib.Nat.{not-suc-le-zero, le-of-suc-le-suc, zero-lt-suc, add-zero, add-suc, suc-add}
 use native.Mathlib.Omega.{arith}
 use lib.Dec.{eqb}
@@ -220,6 +220,25 @@ unfolding Numbered
 numbered-both number [] us first then = rw add-zero at then
 numbered-both number (t ∷ ts) us first then =
     (first .0, numbered-both (suc number) ts us (first .1) (rw (add-suc, ← suc-add) at then))
+
+pub numbered-front : (number : ℕ) (ts us : List Test) → Numbered number (ts ++ us) → Numbered number ts
+unfolding Numbered
+numbered-front number [] us names = tt
+numbered-front number (t ∷ ts) us names = (names .0, numbered-front (suc number) ts us (names .1))
+
+pub numbered-rest : (number : ℕ) (ts us : List Test) → Numbered number (ts ++ us) → Numbered (number + length ts) us
+unfolding Numbered
+numbered-rest number [] us names = rw add-zero names
+numbered-rest number (t ∷ ts) us names = rw (add-suc, ← suc-add) (numbered-rest (suc number) ts us (names .1))
+
+-- the number of a refusal is that of one of the tests
+pub number-within : (number : ℕ) (ts : List Test) → Numbered number ts → (why : Refusal) → verdict ts ≡ refused why
+    → (number ≤ numberOf why) × (numberOf why < number + length ts)
+unfolding Named
+number-within number ts names why e =
+    let f : FirstFailing ts why = refused-first ts why e in
+    let is : numberOf why ≡ number + f .k = sym (ap numberOf (f .named)) ∙ named-at number ts names (f .k) (f .inside) (f .i) (f .here .inside) .0 in
+    (omega arith, omega (arith, f .inside))
 
 -- a row of the paper's table: its test fails at the place and at no lower one, and each test of a lower number passes
 pub record Row (ts : List Test) (number place : ℕ) : Type 0 where

@@ -18,7 +18,7 @@ unfolding soilDay
 rule-8 C largest soil n E h = rw (lt-leb E n h)
 
 -- what holds under either rule holds of the day
-by-rule : (C largest soil n E : ℕ) (P : SoilDay → Type 0) → (E ≤ n → P (wetDay C largest soil n E)) → (n < E → P (dryDay C soil n E)) → P (soilDay C largest soil n E)
+pub by-rule : (C largest soil n E : ℕ) (P : SoilDay → Type 0) → (E ≤ n → P (wetDay C largest soil n E)) → (n < E → P (dryDay C soil n E)) → P (soilDay C largest soil n E)
 by-rule C largest soil n E P wet dry = go (decLe E n)
   where
     go : Dec (E ≤ n) → P (soilDay C largest soil n E)

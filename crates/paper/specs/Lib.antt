@@ -16,3 +16,4 @@ pub mod Flow
 pub mod Refusals
 pub mod Day
 pub mod Run
+pub mod Reasons

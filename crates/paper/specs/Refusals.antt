@@ -118,9 +118,13 @@ flowTests s =
 unfoldable pub mapTests : Setup → List Test
 mapTests s = tableTests s ++ flowTests s
 
--- tests 1 to 6, with the lengths of the lent slices
+-- tests 1 and 2, with the lengths of the lent slices, before others
+abbrev pub lentFirst : Setup → List ℕ → List Test → List Test
+lentFirst s lengths ts = single (gridFits (s .grid)) grid ∷ single (oneEach (cells s) lengths) lent ∷ ts
+
+-- tests 1 to 6
 unfoldable pub setupTests : Setup → List ℕ → List Test
-setupTests s lengths = single (gridFits (s .grid)) grid ∷ single (oneEach (cells s) lengths) lent ∷ mapTests s
+setupTests s lengths = lentFirst s lengths (mapTests s)
 
 -- 9: each cell's stores, then the memory, the last serial and the frost index at the cell count
 unfoldable pub stateFits : Setup → State → ℕ → Bool
