@@ -34,7 +34,7 @@ fn plot_number(plots: &[u32; PLOT_ROOM], slot: usize, k: usize) -> u32
 }
 
 // Available water × root depth.
-fn capacity(available: u32, roots: u32) -> Depth
+pub fn capacity(available: u32, roots: u32) -> Depth
     ensures { λ r. ⌜ r .0 ≡ available * roots ⌝ }
 {
     Depth(available as u64 * roots as u64)

@@ -5,6 +5,7 @@ mod slots;
 mod table;
 
 pub use grounds::Plot;
+pub use grounds::capacity;
 pub use grounds::plot_at;
 pub use plots::PLOT_NUMBERS;
 pub use plots::PLOT_ROOM;
@@ -16,6 +17,8 @@ pub use slots::root_depths;
 pub use slots::small_index;
 pub use table::CODES;
 pub use table::ENTRY_NUMBERS;
+pub use table::LARGEST_RECHARGES;
 pub use table::MOST_ENTRIES;
 pub use table::OPEN_FLAG;
+pub use table::ROOT_DEPTHS;
 pub use table::read_covers;

@@ -38,9 +38,9 @@ pub(crate) const DORMANT_FIGURE: usize = 11;
 // One before those of the four soil groups, which are counted from 1.
 pub(crate) const CURVE_NUMBERS: usize = 1;
 
-pub(crate) const LARGEST_RECHARGES: usize = 5;
+pub const LARGEST_RECHARGES: usize = 5;
 
-pub(crate) const ROOT_DEPTHS: usize = 11;
+pub const ROOT_DEPTHS: usize = 11;
 
 fn size_fits(covers: &[u32]) -> bool
     ensures { λ r. ⌜ r ≡ sizeFits (now (covers .entry)) ⌝ }

@@ -19,7 +19,7 @@ refusal-back paper.serialGap = refl
 refusal-back (paper.stateAt i) = refl
 refusal-back (paper.snowfall i) = refl
 
-refusal-forth : (why : Refusal) → refusalIn (refusalAs why) ≡ why
+pub refusal-forth : (why : Refusal) → refusalIn (refusalAs why) ≡ why
 refusal-forth refusals.Grid = refl
 refusal-forth refusals.Lent = refl
 refusal-forth (refusals.CoverTable e) = refl

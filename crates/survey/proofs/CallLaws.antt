@@ -17,7 +17,7 @@ use Rattle.records.specs.declared.verdicts.Verdict.the-variants.{Accepted, Refu
 use Rattle.records.proofs.VerdictLaws.{accepted-back}
 use Rattle.survey.specs.Charts.{Wiped, Surveyable, Chart, Surveyed}
 
-both : (b : Bool) → (b && true) ≡ b
+pub both : (b : Bool) → (b && true) ≡ b
 both true = refl
 both false = refl
 

@@ -1,0 +1,4 @@
+pub mod Whys
+pub mod Grounds
+pub mod Reading
+pub mod Asked
