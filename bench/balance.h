@@ -2,11 +2,12 @@
  *
  * Every implementation offers the same three functions under its own prefix
  * (plain_, fast_, ...), so that they can be linked into one program and compared
- * cell by cell. The law is document 01 as the requests of document 02 that have landed amend it;
+ * cell by cell; all but the fast one also say why a cell got its figures (M-105).
+ * The law is document 01 as the requests of document 02 that have landed amend it;
  * "rule" and "test" numbers are document 01's.
  *
  * Each function returns 0 when it accepts, else  number * 2^32 + place  of the
- * refusal. Depths are in units of 0.0001 inch, temperatures in tenths of a degree
+ * refusal; why has it in a field. Depths are in units of 0.0001 inch, temperatures in tenths of a degree
  * Fahrenheit, the frost index and its setpoints in thousandths of a Celsius degree-day.
  */
 #ifndef BALANCE_H
@@ -19,7 +20,8 @@ enum {
     BALANCE_MAX_COVERS = 64,
     BALANCE_ENTRY = 16,  /* numbers in one cover entry */
     BALANCE_MEMORY = 5,  /* gross precipitation of the five previous days, oldest first */
-    BALANCE_TOTALS = 7   /* gross, intercepted, evapotranspired, recharged, rejected in closed depressions, gone, stored */
+    BALANCE_TOTALS = 7,  /* gross, intercepted, evapotranspired, recharged, rejected in closed depressions, gone, stored */
+    BALANCE_REASON = 3   /* the number of a reason, and its two depths */
 };
 
 /* The last serial of a state that has seen no day. */
@@ -42,6 +44,12 @@ enum {
     uint32_t *snow, size_t snow_len, \
     uint32_t memory[BALANCE_MEMORY], uint32_t *last_serial, uint32_t *frost_index
 
+/* The state before a day, to be read only. */
+#define BALANCE_BEFORE_PARAMETERS          \
+    const uint32_t *soil, size_t soil_len, \
+    const uint32_t *snow, size_t snow_len, \
+    const uint32_t memory[BALANCE_MEMORY], uint32_t last_serial, uint32_t frost_index
+
 /* What a day gives back for each cell, and its totals. */
 #define BALANCE_RESULT_PARAMETERS                       \
     uint32_t *intercepted, size_t intercepted_len,      \
@@ -63,8 +71,24 @@ typedef uint64_t balance_fresh(BALANCE_SETUP_PARAMETERS, BALANCE_STATE_PARAMETER
 typedef uint64_t balance_day(BALANCE_SETUP_PARAMETERS, BALANCE_STATE_PARAMETERS,
                              BALANCE_RESULT_PARAMETERS, struct recharge_day_record day);
 
+/* Tests 1 to 10, with the cell among those of test 4, then why the cell gets its figures on that day:
+ * the reason's number and its two depths. Refused: three zeros. */
+typedef uint64_t balance_why(BALANCE_SETUP_PARAMETERS, BALANCE_BEFORE_PARAMETERS,
+                             struct recharge_day_record day, uint32_t cell, uint64_t reason[BALANCE_REASON]);
+
+/* Its answer in one. */
+struct explained {
+    uint64_t returned, reason, first, second;
+};
+
+static inline struct explained explained(uint64_t returned, const uint64_t reason[BALANCE_REASON])
+{
+    return (struct explained){returned, reason[0], reason[1], reason[2]};
+}
+
 balance_check plain_check, fast_check;
 balance_fresh plain_fresh, fast_fresh;
 balance_day plain_day, fast_day;
+balance_why plain_why;
 
 #endif

@@ -26,4 +26,7 @@ uint64_t run(const struct implementation *x, struct one_cell *c);
 void frost_rules(void);
 void frost_days(const struct implementation *x);
 
+/* M-105: of an implementation that says why (figures_reasons.c). */
+void reason_days(const struct implementation *x);
+
 #endif

@@ -10,7 +10,8 @@
  * is compared, as well as the numbers past the ends of the slices; a refused call must have left
  * all alone. Where the damage done foretells the refusal, it must be that one. Accepted days are
  * held against the paper's account, cell by cell and in the totals, and pairs of runs against
- * the office's demand 3. The first difference prints its seed and ends the program with 1. */
+ * the office's demand 3. Beside every day it is asked why some of its cells got their figures. The
+ * first difference prints its seed and ends the program with 1. */
 #include "fuzz.h"
 
 #include <stdio.h>
@@ -20,11 +21,12 @@
 
 /* ---------------------------------------------------------------- runs */
 
-/* A run of some days of a valid grid, with a damaged call beside some of them; on some a setpoint
- * moves to the frost index that the day will set, or a cell's snow to what it will melt. */
+/* A run of some days of a valid grid, with a damaged call beside some of them, and with one beside
+ * others that puts a cell's reason at an edge; on some a setpoint moves to the frost index that the
+ * day will set, or a cell's snow to what it will melt. */
 static void run_days(struct grid_case *g, struct state_case *s)
 {
-    static struct state_case spoilt;
+    static struct state_case spoilt, aimed;
     struct recharge_day_record day, spoilt_day;
 
     for (uint64_t days = 1 + below(7); days > 0; days--) {
@@ -47,7 +49,13 @@ static void run_days(struct grid_case *g, struct state_case *s)
         if (all_day(g, s, &day, 0) != 0)
             fail("a valid day is refused");
         check_account(g, &day);
+        aimed = *s;
+        bool at_edge = aim_edge(g, &aimed, &day);
         take_state(g, s);
+        if (at_edge) {
+            all_day(g, &aimed, &day, 0);
+            check_account(g, &day);
+        }
     }
 }
 
@@ -155,10 +163,12 @@ int main(int argc, char **argv)
         reached_often("check", tally.check, 6, cases);
         reached_often("fresh", tally.fresh, 6, cases);
         reached_often("day", tally.day, 10, cases);
+        reached_often("why", tally.why, 10, cases);
         reached_often("text", tally.text, 11, text_cases);
         rejected_often(cases);
         melt_often(cases);
         frost_often(cases);
+        reasons_often(cases);
         enough("a pair of runs had a day in frost", tally.frosty_pair_days, cases);
         enough("a text's frost index was near a setpoint", tally.winter_hits, text_cases);
     }

@@ -10,7 +10,7 @@ enum { MOST_IMPLEMENTATIONS = 8, REFUSALS = 12, GUARD = 1 };
 /* ---------------------------------------------------------------- what happened: fuzz_counts.c */
 
 struct tally {
-    uint64_t check[REFUSALS], fresh[REFUSALS], day[REFUSALS], text[REFUSALS];
+    uint64_t check[REFUSALS], fresh[REFUSALS], day[REFUSALS], why[REFUSALS], text[REFUSALS];
     uint64_t cell_days, pairs, pair_days, frosty_pair_days, wetter_figures, more_runs_on, text_days, winters, winter_hits;
     uint32_t most_outflow;
     uint64_t foretold;
@@ -62,10 +62,21 @@ uint64_t all_fresh(const struct grid_case *g, const struct state_case *s, uint64
 uint64_t all_day(const struct grid_case *g, const struct state_case *s, const struct recharge_day_record *d,
                  uint64_t foretold);
 
+/* Asks all that say why a cell gets its figures on that day, and holds them to each other. */
+struct explained all_why(const struct grid_case *g, const struct state_case *s, const struct recharge_day_record *d,
+                               uint32_t cell);
+
+/* Fails unless two answers on a cell are the same in all four numbers. */
+void same_reason(uint32_t cell, const char *who, const struct explained *found, const char *what,
+                 const struct explained *wanted);
+
 /* ---------------------------------------------------------------- accepted days: fuzz_account.c */
 
 /* Holds an accepted day, in worlds[0], against the account: of each cell, and of the totals. */
 void check_account(const struct grid_case *g, const struct recharge_day_record *d);
+
+/* What flowed into each cell on an accepted day, in worlds[0]. */
+void find_inflow(const struct grid_case *g, uint64_t *inflow);
 
 /* Takes the state over that came back in worlds[0]. */
 void take_state(const struct grid_case *g, struct state_case *s);
@@ -97,6 +108,21 @@ void count_index(const struct grid_case *g, const struct state_case *s, uint64_t
 
 void report_frost(void);
 void frost_often(uint64_t cases);
+
+/* ---------------------------------------------------------------- reasons: fuzz_reasons.c */
+
+/* Asks why some cells, each one of a small grid, get their figures on a day of which every
+ * implementation has returned `day`, and often of one outside the grid. Holds the answers to the
+ * figures of an accepted day, in worlds[0], and to a refused day's refusal, counts them, and sees to
+ * it that no lent number has changed. */
+void ask_reasons(const struct grid_case *g, const struct state_case *s, const struct recharge_day_record *d, uint64_t day);
+
+/* After an accepted day, in worlds[0]: gives a cell the soil before the day, or the day the potential
+ * evapotranspiration, that puts the cell's reason at an edge. False where no cell can be put there. */
+bool aim_edge(const struct grid_case *g, struct state_case *s, struct recharge_day_record *d);
+
+void report_reasons(void);
+void reasons_often(uint64_t cases);
 
 /* ---------------------------------------------------------------- pairs of runs: fuzz_pairs.c */
 

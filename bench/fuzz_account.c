@@ -4,18 +4,25 @@
 #include <inttypes.h>
 #include <string.h>
 
+void find_inflow(const struct grid_case *g, uint64_t *inflow)
+{
+    memset(inflow, 0, g->cells * sizeof inflow[0]);
+    for (uint32_t i = 0; i < g->cells; i++) {
+        int32_t next = case_next(g, i);
+        if (next >= 0)
+            inflow[next] += worlds[0].slice[OUTFLOW][i];
+    }
+}
+
 void check_account(const struct grid_case *g, const struct recharge_day_record *d)
 {
     static uint64_t inflow[CASE_ROOM];
     const struct world *w = &worlds[0];
     uint64_t sum[CASE_SLICES] = {0}, rejected = 0, gone = 0, stored_before = 0;
 
-    memset(inflow, 0, g->cells * sizeof inflow[0]);
+    find_inflow(g, inflow);
     for (uint32_t i = 0; i < g->cells; i++) {
-        int32_t next = case_next(g, i);
-        if (next >= 0)
-            inflow[next] += w->slice[OUTFLOW][i];
-        else if (next == CASE_LEAVES || case_is_water(g, i))
+        if (case_next(g, i) == CASE_LEAVES || case_is_water(g, i))
             gone += w->slice[OUTFLOW][i];
         if (w->slice[OUTFLOW][i] > tally.most_outflow)
             tally.most_outflow = w->slice[OUTFLOW][i];

@@ -174,5 +174,37 @@ uint64_t all_day(const struct grid_case *g, const struct state_case *s, const st
             same_world("day", implementations[x].name, &worlds[x], implementations[0].name,
                        &worlds[0], reach);
     }
+    ask_reasons(g, s, d, returned[0]);
     return returned[0];
+}
+
+void same_reason(uint32_t cell, const char *who, const struct explained *found, const char *what,
+                 const struct explained *wanted)
+{
+    if (found->returned == wanted->returned && found->reason == wanted->reason && found->first == wanted->first &&
+        found->second == wanted->second)
+        return;
+    fail("why, of cell %" PRIu32 ": %s has reason %" PRIu64 ", %" PRIu64 " and %" PRIu64 " (refusal %" PRIu64 " at %" PRIu64
+         "), %s %" PRIu64 ", %" PRIu64 " and %" PRIu64 " (%" PRIu64 " at %" PRIu64 ")",
+         cell, who, found->reason, found->first, found->second, found->returned >> 32, found->returned & UINT32_MAX, what,
+         wanted->reason, wanted->first, wanted->second, wanted->returned >> 32, wanted->returned & UINT32_MAX);
+}
+
+struct explained all_why(const struct grid_case *g, const struct state_case *s, const struct recharge_day_record *d,
+                               uint32_t cell)
+{
+    struct explained first = {0};
+
+    for (size_t x = 0; x < implementations_count; x++) {
+        if (implementations[x].why == NULL)
+            continue;
+        uint64_t reason[BALANCE_REASON] = {99, 99, 99}; /* to be written, refused or not */
+        const struct explained why =
+            explained(implementations[x].why(SETUP_OF(g), s->soil, s->len[SOIL], s->snow, s->len[SNOW], s->memory,
+                                             s->last_serial, s->frost_index, *d, cell, reason), reason);
+        if (x == 0)
+            first = why;
+        same_reason(cell, implementations[x].name, &why, implementations[0].name, &first);
+    }
+    return first;
 }

@@ -52,14 +52,14 @@ void report(uint64_t cases, uint64_t text_cases, uint64_t seed, double case_time
     printf("\n%" PRIu64 " texts in %.1f s, text functions:", text_cases, text_time);
     for (size_t x = 0; x < texts_count; x++)
         printf(" %s", texts[x].name);
-    printf("\n\n%-8s %10s %10s %10s %10s %10s\n", "refusal", "check", "fresh", "day", "text",
+    printf("\n\n%-8s %10s %10s %10s %10s %10s %10s\n", "refusal", "check", "fresh", "day", "why", "text",
            "places");
     for (int i = 0; i < REFUSALS; i++) {
         uint64_t different = 0;
         for (int k = 0; k <= BALANCE_MAX_CELLS; k++)
             different += places[i][k];
-        printf("%-8d %10" PRIu64 " %10" PRIu64 " %10" PRIu64 " %10" PRIu64 " %10" PRIu64 "%s\n",
-               i, tally.check[i], tally.fresh[i], tally.day[i], tally.text[i], different,
+        printf("%-8d %10" PRIu64 " %10" PRIu64 " %10" PRIu64 " %10" PRIu64 " %10" PRIu64 " %10" PRIu64 "%s\n",
+               i, tally.check[i], tally.fresh[i], tally.day[i], tally.why[i], tally.text[i], different,
                i == 0 ? "  (0: accepted; places are the library's)" : "");
     }
     printf("\nreturns that were foretold and so: %" PRIu64 "\n", tally.foretold);
@@ -71,6 +71,7 @@ void report(uint64_t cases, uint64_t text_cases, uint64_t seed, double case_time
     report_rejected();
     report_melt();
     report_frost();
+    report_reasons();
     printf("texts of winters besides: %" PRIu64 ", with %" PRIu64 " days whose frost index is a setpoint or one beside it\n",
            tally.winters, tally.winter_hits);
     printf("day lines of texts: %" PRIu64 "\n", tally.text_days);

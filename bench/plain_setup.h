@@ -130,8 +130,10 @@ static inline uint64_t refusal(uint64_t number, uint64_t place)
 /* ---------------------------------------------------------------- parts in other files */
 
 /* Tests 1 to 6, then 7 to 10 (plain_tests.c): 0, or the refusal. `others` are the lengths of the
- * slices that a call was lent besides the setup's four. */
+ * slices that a call was lent besides the setup's four. A call may ask about a cell (M-105): one
+ * outside the grid is found with the cells of test 4, after every cell of the grid. */
 uint64_t plain_tests_1_to_6(const struct setup *s, const size_t *others, size_t others_count);
+uint64_t plain_tests_1_to_6_about(const struct setup *s, const size_t *others, size_t others_count, uint32_t cell);
 uint64_t plain_tests_7_to_10(const struct setup *s, const struct recharge_day_record *day, const uint32_t *soil,
                              const uint32_t *snow, const uint32_t *memory, uint32_t last_serial, uint32_t frost_index);
 

@@ -115,16 +115,39 @@ static uint64_t test_6(const struct setup *s)
     return 0;
 }
 
-uint64_t plain_tests_1_to_6(const struct setup *s, const size_t *others, size_t others_count)
+static uint64_t tests_1_to_4(const struct setup *s, const size_t *others, size_t others_count)
 {
     uint64_t no;
 
     if ((no = test_1(s)) != 0) return no;
     if ((no = test_2(s, others, others_count)) != 0) return no;
     if ((no = test_3(s)) != 0) return no;
-    if ((no = test_4(s)) != 0) return no;
-    if ((no = test_5(s)) != 0) return no;
-    return test_6(s);
+    return test_4(s);
+}
+
+static uint64_t tests_5_and_6(const struct setup *s)
+{
+    uint64_t no = test_5(s);
+
+    return no != 0 ? no : test_6(s);
+}
+
+uint64_t plain_tests_1_to_6(const struct setup *s, const size_t *others, size_t others_count)
+{
+    uint64_t no = tests_1_to_4(s, others, others_count);
+
+    return no != 0 ? no : tests_5_and_6(s);
+}
+
+uint64_t plain_tests_1_to_6_about(const struct setup *s, const size_t *others, size_t others_count, uint32_t cell)
+{
+    uint64_t no = tests_1_to_4(s, others, others_count);
+
+    if (no != 0)
+        return no;
+    if (cell >= cell_count(s)) /* a cell outside the grid is 4 at its number */
+        return refusal(4, cell);
+    return tests_5_and_6(s);
 }
 
 static bool temperature_outside(int32_t t)

@@ -90,4 +90,7 @@ uint64_t plain_take_up(const unsigned char *in, size_t n, struct grid *g);
 uint64_t plain_start(struct grid *g);
 uint64_t plain_run_day(struct grid *g, size_t day);
 
+/* Tests 1 to 6 of a call that asks about a cell (plain_reasons.c). */
+uint64_t plain_check_about(BALANCE_SETUP_PARAMETERS, uint32_t cell);
+
 #endif

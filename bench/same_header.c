@@ -8,6 +8,7 @@
 balance_check recharge_check;
 balance_fresh recharge_fresh;
 balance_day recharge_day;
+balance_why recharge_why;
 balance_text recharge_text;
 
 _Static_assert((int)RECHARGE_MAX_CELLS == (int)BALANCE_MAX_CELLS && (int)RECHARGE_MAX_COVERS == (int)BALANCE_MAX_COVERS, "limits");
@@ -20,3 +21,4 @@ _Static_assert(sizeof(struct recharge_cover) == RECHARGE_ENTRY * sizeof(uint32_t
 _Static_assert(offsetof(struct recharge_cover, root_depth) == 12 * sizeof(uint32_t), "in the table's order");
 /* Both are longer than 16 bytes, so that no processor's C hands them over in registers (native.sh). */
 _Static_assert(sizeof(struct recharge_site) == 24 && sizeof(struct recharge_day_record) == 28, "by value");
+_Static_assert((int)RECHARGE_REASON == (int)BALANCE_REASON, "a reason and its depths");

@@ -1,9 +1,9 @@
 /* To compare a third implementation, say one with the prefix proved_, compile this file with
- * -DTHIRD=proved and link proved_check, proved_fresh and proved_day in; for a third text
- * function proved_text, with -DTHIRD_TEXT=proved. (Or add an entry by hand.) */
+ * -DTHIRD=proved and link proved_check, proved_fresh, proved_day and proved_why in; for a third
+ * text function proved_text, with -DTHIRD_TEXT=proved. (Or add an entry by hand.) */
 #include "table.h"
 
-#define ENTRY_(prefix) {#prefix, prefix##_check, prefix##_fresh, prefix##_day}
+#define ENTRY_(prefix) {#prefix, prefix##_check, prefix##_fresh, prefix##_day, prefix##_why}
 #define ENTRY(prefix) ENTRY_(prefix)
 #define TEXT_ENTRY_(prefix) {#prefix, prefix##_text}
 #define TEXT_ENTRY(prefix) TEXT_ENTRY_(prefix)
@@ -14,6 +14,7 @@
 balance_check JOIN(THIRD, _check);
 balance_fresh JOIN(THIRD, _fresh);
 balance_day JOIN(THIRD, _day);
+balance_why JOIN(THIRD, _why);
 #endif
 #ifdef THIRD_TEXT
 balance_text JOIN(THIRD_TEXT, _text);
@@ -21,7 +22,7 @@ balance_text JOIN(THIRD_TEXT, _text);
 
 const struct implementation implementations[] = {
     ENTRY(plain),
-    ENTRY(fast),
+    {"fast", fast_check, fast_fresh, fast_day, NULL},
 #ifdef THIRD
     ENTRY(THIRD),
 #endif

@@ -10,6 +10,7 @@ struct implementation {
     balance_check *check;
     balance_fresh *fresh;
     balance_day *day;
+    balance_why *why; /* NULL of one that does not say */
 };
 
 struct text_implementation {

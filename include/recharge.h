@@ -1,9 +1,9 @@
 /* recharge.h: a groundwater office's daily soil-water balance, proved, for C.
  *
- * A setup check, a fresh state, one day, and the program's whole text. What they do is the law of documents 01 and 02 (of 02:
- * M-106, frozen ground, M-100, melt in millimetres, and M-104, rejected recharge runs on downhill; M-102, a smaller program, moves
- * no figure; docs/RULES.md has the rules in plain words); that they do it, for every input, refused or not, is proved (crates/clib, docs/PROMISES.md). "Test" and "rule"
- * numbers are document 01's.
+ * A setup check, a fresh state, one day, why a cell got its figures that day, and the program's whole text. What they do is the law
+ * of documents 01 and 02 (of 02: M-106, frozen ground, M-100, melt in millimetres, M-104, rejected recharge runs on downhill, and
+ * M-105, why this cell got that figure; M-102, a smaller program, moves no figure; docs/RULES.md has the rules in plain words); that
+ * they do it, for every input, refused or not, is proved (crates/clib, docs/PROMISES.md). "Test" and "rule" numbers are document 01's.
  *
  * Build the library with `rt staticlib clib` and link target/staticlib/libclib.a, for x86-64 Linux. Of the C library it needs
  * memcpy and memset, and nothing else. examples/c has two programs over it.
@@ -13,16 +13,16 @@
  * Cells are numbered from 0, row by row from the top left.
  *
  * TWO WAYS TO CALL. With structs: fill a recharge_setup, a recharge_state and recharge_results, and call recharge_check_setup,
- * recharge_fresh_state and recharge_one_day, whose arguments are named by their fields. They are inline and only hand the fields
- * on to the raw calls, recharge_check, recharge_fresh and recharge_day, which are what is proved: there every slice is a pointer
- * and its own count of numbers.
+ * recharge_fresh_state, recharge_one_day and recharge_why_cell, whose arguments are named by their fields. They are inline and only
+ * hand the fields on to the raw calls, recharge_check, recharge_fresh, recharge_day and recharge_why, which are what is proved: there
+ * every slice is a pointer and its own count of numbers.
  *
  * Pointers: none is NULL, not even for a count of 0, and each points to as many numbers as its count or its declaration says.
  * What a call may write overlaps nothing else that it is handed. That much is the caller's word: nothing can test it. Everything
  * else is tested: there is an answer for every number and every count.
  *
  * Nothing is kept between calls, no memory is taken, and calls on different slices may run at the same time. A call uses
- * less than 100,000 bytes of stack.
+ * less than 100,000 bytes of stack where it says no other figure.
  *
  * WHAT COMES BACK. 0 where the call accepts; else the refusal's number x 2^32 + its place (RECHARGE_NUMBER, RECHARGE_PLACE).
  * Tests run in the order of the numbers, and the place is the lowest that fails:
@@ -30,7 +30,8 @@
  *   1  width or height 0, or more than 4,096 cells: at 0
  *   2  a slice of one number a cell has another count: at 0
  *   3  the cover table: at the entry; at 0 for its size; at the later entry for the order of the codes
- *   4  a cell's cover code not in the table, its soil group or available water outside: at the cell
+ *   4  a cell's cover code not in the table, its soil group or available water outside: at the cell; after all of them, of
+ *      recharge_why alone, the cell asked about outside the grid: at its number
  *   5  directions that lead back to a cell: at the lowest cell on a ring
  *   6  the season or the setpoints outside their limits: at 0
  *   7  a value of the day outside its limits: at 0
@@ -38,7 +39,7 @@
  *   9  the state outside its limits: at the cell; at the cell count for the memory or the frost index
  *  10  snowfall would take a store past 10,000,000: at the cell
  *
- * The setup check and the fresh state use 1 to 6, a day 1 to 10. What a refused call leaves and writes stands with each call.
+ * The setup check and the fresh state use 1 to 6, a day and why 1 to 10. What a refused call leaves and writes stands with each call.
  */
 #ifndef RECHARGE_H
 #define RECHARGE_H
@@ -56,6 +57,7 @@ enum {
     RECHARGE_ENTRY = 16, /* numbers in one entry of the cover table */
     RECHARGE_MEMORY = 5,
     RECHARGE_TOTALS = 7,
+    RECHARGE_REASON = 3, /* the number of a reason and its two depths */
     RECHARGE_FIRST_SETPOINT = 56000, /* the setpoints that the program `balance` uses */
     RECHARGE_SECOND_SETPOINT = 83000,
     RECHARGE_TEXT = 786461 /* bytes of the longest text */
@@ -132,6 +134,26 @@ struct recharge_day_record {
     uint32_t potential;             /* potential evapotranspiration, 0 to 20,000 */
 };
 
+/* Why a cell got its figures on a day (M-105): of seven reasons the first that is true, and two depths.
+ *
+ *      the reason                                                   first                               second
+ *   1  open water                                                   gross precipitation                 what flows in
+ *   2  no water reached the ground and snow lies at the day's end   w, which is 0                       snow at the day's end
+ *   3  no water reached the ground                                  w, which is 0                       that snow, which is 0
+ *   4  infiltration below potential evapotranspiration              infiltration                        potential evapotranspiration
+ *   5  the soil had room for all of it                              infiltration less the potential     room
+ *   6  excess above the cover's largest recharge                    excess                              the cover's largest
+ *   7  all the excess recharged                                     excess                              the cover's largest
+ *
+ * w is the cell's water: rain, melt and what flows in. Infiltration is w less the runoff; rejected recharge, which runs on with the
+ * runoff, counts as infiltration all the same. The room is the capacity less the soil before the day, the excess the soil before the
+ * day and infiltration, less potential evapotranspiration and the capacity. A surplus that just fills the room is 5, an excess that is
+ * just the largest is 7. No depth here passes 2,000,000,000. */
+struct recharge_reason {
+    uint64_t reason;        /* 1 to 7 */
+    uint64_t first, second; /* the two depths */
+};
+
 /* ---------------------------------------------------------------- the raw calls, which are proved */
 
 /* Tests 1 to 6 of a setup. covers is the cover table, RECHARGE_ENTRY numbers an entry; covers_len counts the numbers. */
@@ -177,6 +199,27 @@ uint64_t recharge_day(struct recharge_site site,
                       uint32_t *rejected, size_t rejected_len,
                       uint64_t totals[RECHARGE_TOTALS], struct recharge_day_record day);
 
+/* Tests 1 to 10, then why a cell gets its figures on that day. The state is the one before the day, as recharge_day is lent it, so
+ * ask before that call: it leaves the state after the day.
+ *
+ *   soil, snow     of each cell; of test 2 these two and the setup's four are looked at, since no results are lent
+ *   cell           its number, 0 to the cell count less 1; another is refusal 4 at that number, after any bad cell of the grid and
+ *                  before 5
+ *   reason         is written: the reason's number and its two depths
+ *
+ * A day that recharge_day refuses is explained by its refusal: reason is three zeros. The state and the setup are only read, since it
+ * works on copies, for which it uses less than 250,000 bytes of stack. */
+uint64_t recharge_why(struct recharge_site site,
+                      const uint32_t *covers, size_t covers_len,
+                      const uint32_t *direction, size_t direction_len,
+                      const uint32_t *cover, size_t cover_len,
+                      const uint32_t *group, size_t group_len,
+                      const uint32_t *water, size_t water_len,
+                      const uint32_t *soil, size_t soil_len,
+                      const uint32_t *snow, size_t snow_len,
+                      const uint32_t memory[RECHARGE_MEMORY], uint32_t last_serial, uint32_t frost_index,
+                      struct recharge_day_record day, uint32_t cell, uint64_t reason[RECHARGE_REASON]);
+
 /* The program `balance` as a function: what it prints for the input's bytes.
  *
  *   input          any bytes; more than 65,536 of them are refused as text (11 at 0)
@@ -196,6 +239,9 @@ size_t recharge_text(const unsigned char *input, size_t input_len, unsigned char
 #define RECHARGE_STATE_(state)                                                                                      \
     (state)->soil, (state)->cells, (state)->snow, (state)->cells, (state)->memory, &(state)->last_serial,           \
         &(state)->frost_index
+#define RECHARGE_BEFORE_(state)                                                                                     \
+    (state)->soil, (state)->cells, (state)->snow, (state)->cells, (state)->memory, (state)->last_serial,            \
+        (state)->frost_index
 #define RECHARGE_RESULTS_(results)                                                                                  \
     (results)->intercepted, (results)->cells, (results)->outflow, (results)->cells, (results)->evapotranspired,     \
         (results)->cells, (results)->recharged, (results)->cells, (results)->rejected, (results)->cells
@@ -220,8 +266,22 @@ static inline uint64_t recharge_one_day(const struct recharge_setup *setup, stru
     return recharge_day(RECHARGE_SETUP_(setup), RECHARGE_STATE_(state), RECHARGE_RESULTS_(results), totals, day);
 }
 
+/* recharge_why: the state is the one before the day. */
+static inline uint64_t recharge_why_cell(const struct recharge_setup *setup, const struct recharge_state *state,
+                                         struct recharge_day_record day, uint32_t cell, struct recharge_reason *reason)
+{
+    uint64_t told[RECHARGE_REASON];
+    const uint64_t returned = recharge_why(RECHARGE_SETUP_(setup), RECHARGE_BEFORE_(state), day, cell, told);
+
+    reason->reason = told[0];
+    reason->first = told[1];
+    reason->second = told[2];
+    return returned;
+}
+
 #undef RECHARGE_SETUP_
 #undef RECHARGE_STATE_
+#undef RECHARGE_BEFORE_
 #undef RECHARGE_RESULTS_
 
 #ifdef __cplusplus

@@ -9,10 +9,10 @@ kit_folder() {
 
 # Runs a program as `rt` itself does: by the loader of the kit's toolchain. The program is for x86-64; on another processor it runs under the
 # emulator that the toolchain has beside its compiler.
-loaded() { # PROGRAM
+loaded() { # PROGRAM [ARGUMENT..]
     kit=${RATTLE_HOME:-$(kit_folder)}
     toolchain=$kit/on/$(uname -m)/toolchain
     emulator=$toolchain/bin/qemu-x86_64
     [ -x "$emulator" ] || emulator=''
-    ${emulator:+"$emulator"} "$toolchain/lib/ld-linux-x86-64.so.2" --library-path "$toolchain/lib" "$1"
+    ${emulator:+"$emulator"} "$toolchain/lib/ld-linux-x86-64.so.2" --library-path "$toolchain/lib" "$@"
 }

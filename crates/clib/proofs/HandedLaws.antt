@@ -20,7 +20,7 @@ use Rattle.clib.specs.Given.{gridFrom, climateFrom, setupFrom}
 use Rattle.clib.specs.Narrow.{narrow, NarrowMemory, Narrow}
 use Rattle.clib.specs.Numbers.{returned, memoryFrom, memoryList, noSerial, lastFrom, lastNumber, pastFrom, totalsList}
 use Rattle.clib.specs.Handed.{Stores, storesFrom, stateFrom, storesOf, begun, begunAs, freshGives, handed, handedAs, dayGives}
-use Rattle.clib.proofs.PlaceLaws.{setup-near, day-near}
+use Rattle.clib.proofs.PlaceLaws.{setup-near, day-near, near-fits}
 
 -- the setup that the library is handed
 pub same-setup : (site : Site) (g : Grid) (c : Climate) → gridAs g ≡ gridFrom site → climateAs c ≡ climateFrom site
@@ -72,9 +72,9 @@ module _ (s : Setup) (soil snow : List ℕ) where
   fresh-past accepted = refl
   fresh-past (refused why) = refl
 
-  pub fresh-near : {o : Fresh} → o ≡ freshOf s soil snow → verdictPlace (o .verdict) ≤ 4096
+  pub fresh-near : {o : Fresh} → o ≡ freshOf s soil snow → verdictPlace (o .verdict) < narrow
   unfolding freshOf
-  fresh-near e = rw (ap (λ (o : Fresh). o .verdict) e ∙ fresh-verdict _) (setup-near s _)
+  fresh-near e = rw (ap (λ (o : Fresh). o .verdict) e ∙ fresh-verdict _) (near-fits (setup-near s _))
 
   pub fresh-narrow : {o : Fresh} → o ≡ freshOf s soil snow → Narrow (o .state .past)
   unfolding freshOf
@@ -103,9 +103,9 @@ module _ (s : Setup) (st : State) (r : Results) (d : Day) where
   day-verdict accepted = refl
   day-verdict (refused why) = refl
 
-  pub day-placed : {o : Outcome} → o ≡ dayOf s st r d → verdictPlace (o .verdict) ≤ 4096
+  pub day-placed : {o : Outcome} → o ≡ dayOf s st r d → verdictPlace (o .verdict) < narrow
   unfolding dayOf verdictOf
-  day-placed e = rw (ap (λ (o : Outcome). o .verdict) e ∙ day-verdict _) (day-near s _ st d)
+  day-placed e = rw (ap (λ (o : Outcome). o .verdict) e ∙ day-verdict _) (near-fits (day-near s _ st d))
 
   -- the index that an accepted day sets is within its limit
   narrow-as : (v : Verdict) → verdictOf s st r d ≡ v → Narrow (st .past) → d .gross < narrow → Narrow (outcomeAs s st r d v .state .past)

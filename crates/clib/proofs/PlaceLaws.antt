@@ -17,6 +17,10 @@ use Rattle.paper.specs.State.{State, Day}
 use Rattle.paper.specs.Refusals.{grid, placeOf, verdictPlace, Test, verdict, single, judged, coverPlaces, setupTests, mapTests, dayTests}
 use Rattle.paper.specs.Day as paper
 use Rattle.paper.proofs.RefusalLaws.{fail-single, pass-single}
+use Rattle.clib.specs.Narrow.{narrow}
+
+pub near-fits : {place : ℕ} → place ≤ 4096 → place < narrow
+near-fits h = omega arith
 
 -- every place of the tests is at most 4,096
 unfoldable Near : List Test → Type 0

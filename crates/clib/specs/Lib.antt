@@ -3,3 +3,4 @@ pub mod Given
 pub mod Handed
 pub mod Narrow
 pub mod Texts
+pub mod Whys

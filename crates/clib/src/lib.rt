@@ -1,10 +1,11 @@
-// The library for C: the three calls and the program's text over plain numbers. What is small goes by value as a struct, a slice is a pointer and a
+// The library for C: the four calls and the program's text over plain numbers. What is small goes by value as a struct, a slice is a pointer and a
 // length, and what has a fixed length is a pointer. include/recharge.h says them to C.
 mod calls;
 mod given;
 mod numbers;
 mod state;
 mod texts;
+mod whys;
 
 pub use calls::recharge_check;
 pub use calls::recharge_day;
@@ -12,3 +13,4 @@ pub use calls::recharge_fresh;
 pub use given::DayNumbers;
 pub use given::Site;
 pub use texts::recharge_text;
+pub use whys::recharge_why;

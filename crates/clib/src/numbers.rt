@@ -1,6 +1,6 @@
 // Plain numbers and quantities, and what a call returns to C.
 ghost use mathlib.Core.Path.{_≡_};
-ghost use Prim.Native.Nat.{_<_, _≤_};
+ghost use Prim.Native.Nat.{_<_};
 ghost use Rattle.paper.specs.Refusals.{verdictPlace};
 ghost use Rattle.records.specs.Verdicts.{verdictAs};
 ghost use Rattle.clib.specs.Narrow.{narrow};
@@ -26,7 +26,7 @@ pub(crate) fn index(figure: u32) -> FrostIndex
 
 // 0 where it accepts, else the paper's number × 2^32 + its place.
 pub(crate) fn returned_as(verdict: Verdict) -> u64
-    requires { ⌜ verdictPlace (verdictAs verdict) ≤ 4096 ⌝ }
+    requires { ⌜ verdictPlace (verdictAs verdict) < narrow ⌝ }
     ensures { λ r. ⌜ r ≡ returned (verdictAs verdict) ⌝ }
 {
     let place = verdict.place();

@@ -1,4 +1,4 @@
--- `numbers::returned_as` meets its contract: a number is at most 10 and a place at most 4,096, so that nothing wraps.
+-- `numbers::returned_as` meets its contract: a number is at most 10 and a place fits 32 bits, so that nothing wraps.
 use mathlib.Core.Path.{refl}
 use borrow.Author.Needs.{needs}
 use Rattle.clib.specs.Numbers.{returned}
