@@ -5,7 +5,7 @@
 #     bench/run.sh          checks; writes nothing outside bench/build/
 #     bench/run.sh write    stores what examples/refused/ is held to: read the explanations before you keep them
 #
-# The refusals themselves are the plain C's. Where balance is not built yet, ./run proves and builds it first.
+# The refusals themselves are the plain C's. Where balance or why is not built yet, ./run proves and builds it first.
 set -eu
 cd "$(dirname "$0")/.."
 LC_ALL=C # the system's words in English
@@ -246,6 +246,86 @@ program_itself() {
     said 'the program on a full disk' '^balance: standard output: No space left on device$'
 }
 
+# ---------------------------------------------------------------- why
+
+# Every day of a cell, and one of them; a serial that no day has, and a text without days.
+asked() {
+    attempt ./run why examples/ridge.txt 0
+    expect 'why: every day' 0 crates/why/stdout nothing
+    { sed -n 7,8p crates/why/stdout; echo 'end 1'; } > $made/day.out
+    attempt ./run why examples/ridge.txt 0 4
+    expect 'why: one day' 0 $made/day.out nothing
+    echo 'end 0' > $made/none.out
+    attempt ./run why examples/ridge.txt 0 9
+    expect 'why: a serial that no day has' 2 $made/none.out something
+    said 'why: a serial that no day has' '^why: no day of the text has serial 9$'
+    sed 7q examples/ridge.txt > $made/no-days.txt
+    attempt ./run why $made/no-days.txt 0
+    expect 'why: a text without days' 0 $made/none.out nothing
+}
+
+# A text that balance refuses is refused alike, and explained alike, also where the days before it are not asked about.
+asked_of_refused() {
+    for out in examples/refused/*.out; do
+        name=$(basename "$out" .out)
+        text=examples/refused/$name.txt
+        [ -f "$text" ] || text=$made/$name.txt
+        for serial in '' 9999999; do
+            attempt ./run why "$text" 0 ${serial:+"$serial"}
+            tail -n 1 $made/got.out > $made/last.out
+            tail -n 1 "$out" | cmp - $made/last.out || wrong "why: $name is refused otherwise"
+            mv $made/last.out $made/got.out
+            expect "why: $name" 1 $made/got.out "examples/refused/$name.said"
+        done
+    done
+}
+
+# A cell outside the grid: after a bad cell, and before a ring.
+asked_outside() {
+    echo 'refused 4 at 3' > $made/outside.out
+    attempt ./run why examples/ridge.txt 3 1
+    expect 'why: a cell outside the grid' 1 $made/outside.out something
+    said 'why: a cell outside the grid' '^There is no cell 3: the grid is 3 x 1, and its 3 cells are numbered from 0 to 2'
+    echo 'refused 4 at 999999999' > $made/outside.out
+    attempt ./run why examples/refused/5-ring.txt 999999999
+    expect 'why: a cell outside the grid, and a ring' 1 $made/outside.out something
+    for out in examples/refused/4-*.out; do
+        attempt ./run why "${out%.out}.txt" 999999999
+        expect "why: a cell outside the grid, and ${out%.out}" 1 "$out" "${out%.out}.said"
+    done
+}
+
+# What is neither: arguments that are no numbers, wrong usage, reads and writes that fail.
+asked_wrongly() {
+    for cell in 01 -1 +1 1.0 x '' 1234567890 12345678901234567890; do
+        attempt ./run why examples/ridge.txt "$cell" 4
+        expect "why: cell '$cell'" 2 /dev/null something
+        said "why: cell '$cell'" '^why: the cell is no number of 1 to 9 digits$'
+        attempt ./run why examples/ridge.txt 0 "$cell"
+        expect "why: serial '$cell'" 2 /dev/null something
+        said "why: serial '$cell'" '^why: the serial is no number of 1 to 9 digits$'
+    done
+    for arguments in 'examples/ridge.txt' 'examples/ridge.txt 0 4 5'; do
+        # shellcheck disable=SC2086 # its words
+        attempt ./run why $arguments
+        expect "why: $arguments" 2 /dev/null something
+        said "why: $arguments" '^usage: '
+    done
+    attempt ./run why $made/no-such-file 0
+    expect 'why: a missing file' 2 /dev/null something
+    said 'why: a missing file' 'no-such-file: no such file; usage: ./run why FILE CELL'
+    attempt full_disk ./run why examples/ridge.txt 0
+    expect 'why: a full disk' 2 /dev/null something
+    attempt ./run why examples 0
+    expect 'why: a folder' 2 /dev/null something
+    said 'why: a folder' '^why: standard input: Is a directory$'
+    attempt loaded target/bin/why < examples/ridge.txt
+    expect 'why itself without a cell' 0 /dev/null something
+    said 'why itself without a cell' '^usage: why CELL \[SERIAL\] < TEXT$'
+    attempt full_disk loaded target/bin/why 0 < examples/ridge.txt
+    said 'why itself on a full disk' '^why: standard output: No space left on device$'
+}
+
 # ---------------------------------------------------------------- damaged texts
 
 # Every refusal of the plain C on damaged copies, explained.
@@ -332,6 +412,11 @@ unexplained
 neither
 cut_short
 totals
+./run why examples/ridge.txt 0 > $made/first.out # as above
+asked
+asked_of_refused
+asked_outside
+asked_wrongly
 : > $made/explained
 damaged examples/ridge.txt 200
 damaged examples/refused/8-serial.txt 60

@@ -1,10 +1,10 @@
-# Explains a refusal of the program `balance` to a person:
+# Explains a refusal of the program `balance`, or of `why`, to a person:
 #
-#     od -An -v -tu1 < TEXT | awk -v number=N -v place=P -v days=D -f tools/numbers.awk -f tools/explain.awk
+#     od -An -v -tu1 < TEXT | awk -v number=N -v place=P -v days=D [-v asked=CELL] -f tools/numbers.awk -f tools/explain.awk
 #
-# TEXT is what the program read, `refused N at P` its last line, D the days that it printed before. The refusal is the program's, and no
-# proof speaks of this file: it repeats the limits of README's input table, to say which of them was passed, and where. Lines, columns,
-# rows, and the ordinals of covers and days count from 1, cells from 0 as in the refusal.
+# TEXT is what the program read, `refused N at P` its last line, D the days that it accepted before, CELL the cell that `why` was asked
+# about. The refusal is the program's, and no proof speaks of this file: it repeats the limits of README's input table, to say which of
+# them was passed, and where. Lines, columns, rows, and the ordinals of covers and days count from 1, cells from 0 as in the refusal.
 
 BEGIN {
     MOST_CELLS = 4096; MOST_COVERS = 64; MOST_CODE = 255; MOST_SNOW = 10000000; NO_LIMIT = 999999999; FREEZING = 320
@@ -23,6 +23,7 @@ END {
     else if (!fits()) print "This refusal does not belong to this text."
     else if (number == 1) explain_grid()
     else if (number == 3) explain_covers()
+    else if (number == 4 && place >= cells) explain_asked()
     else if (number == 4) explain_cell()
     else if (number == 5) explain_ring()
     else if (number == 6) explain_season()
@@ -170,6 +171,7 @@ function fits() {
     if (!covers || !cells || count < first_day) return 0
     if (number == 3) return place < covers
     if (number == 6) return 1
+    if (number == 4 && asked != "" && place == asked) return 1
     if (number == 4 || number == 5) return place < cells
     if (days >= int((count - first_day) / DAY)) return 0
     return number == 7 || (number == 8 && days > 0) || (number == 10 && place < cells)
@@ -327,6 +329,12 @@ function explain_cell(    i, entry, codes, known) {
     if (!known) say_value(i + CELL_COVER, "cell", CELL_COVER, "the codes of the cover table are" codes)
     say_outside(i, "cell", GROUP, CELL)
     say_causes()
+}
+
+# The cell asked about, where it is outside the grid.
+function explain_asked() {
+    print "There is no cell " place ": the grid is " width " x " height ", and its " plural(cells, "cell") \
+        (cells == 1 ? " is numbered 0." : " are numbered from 0 to " (cells - 1) ", row by row from the top left.")
 }
 
 function name_ways() {

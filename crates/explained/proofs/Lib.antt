@@ -1,0 +1,5 @@
+pub mod InchesLaws
+pub mod LineLaws
+pub mod TellingLaws
+pub mod DayLaws
+pub mod ExampleLaws
