@@ -1,15 +1,15 @@
 -- What the reasons speak of, read back from a cell's figures: the soil's account gives the infiltration, the outflow less what is rejected the runoff, and rule 7
 -- shares the excess between recharge and what is rejected. So the reason follows from the figures and from what the cell's soil and cover can take.
 use mathlib.Core.Path.{_≡_, refl, sym, _∙_}
-use mathlib.Core.Bool.{Bool, true, false, true≢false}
-use Prim.Native.Nat.{ℕ, _+_, _-_, _≤_, _<_}
+use mathlib.Core.Bool.{true, false, true≢false}
+use Prim.Native.Nat.{ℕ, _+_, _-_, _≤_}
 use native.Mathlib.Omega.{arith}
 use Rattle.theory.proofs.Cases.{byCases, cond-true}
 use Rattle.paper.specs.Setup.{Cell}
 use Rattle.paper.specs.CurveNumber.{curveNumber}
 use Rattle.paper.specs.Soil.{excess, wetDay, dryDay, soilDay}
 use Rattle.paper.specs.CellDay.{Today, ownOf, runoffOf, groundOf, passedOf, Figures, openDay, landDay, cellDay}
-use Rattle.paper.specs.Reasons.{Facts, factsFor, factsOf, Reason, openWater, underSnow, noWater, belowPotential, roomForAll, aboveLargest, allRecharged, holds, reasonOf, Explanation, withDepths, explained}
+use Rattle.paper.specs.Reasons.{Facts, factsFor, factsOf, Reason, openWater, underSnow, noWater, belowPotential, roomForAll, aboveLargest, allRecharged, holds, reasonOf, withDepths, explained}
 use Rattle.paper.proofs.CellDayLaws.{day-open, day-land, runoff-within, passed-closed, passed-on}
 use Rattle.paper.proofs.SoilLaws.{by-rule, soil-account}
 use Rattle.paper.proofs.ReasonLaws.{named-reason-holds}

@@ -3,8 +3,8 @@
 -- excess is not above the cover's largest: then rule 7 recharges all of it, which is what the seventh says.
 use mathlib.Core.Logic.{inl, inr}
 use mathlib.Core.Path.{_≡_, refl, sym, ap, _∙_, subst⁻¹}
-use mathlib.Core.Bool.{Bool, true, false, cond, true≢false}
-use Prim.Native.Nat.{ℕ, suc, _+_, _-_, _≤_, _<_}
+use mathlib.Core.Bool.{true, false, cond, true≢false}
+use Prim.Native.Nat.{ℕ, suc, _-_, _≤_, _<_}
 use native.Mathlib.Nat.{eq-or-lt-of-le, le-of-suc-le-suc, le-antisymm, le-of-lt, min-eq-left, min-eq-right}
 use native.Mathlib.Omega.{arith}
 use lib.Dec.{eqb, lit<}
@@ -13,7 +13,7 @@ use Rattle.theory.proofs.Cases.{byCases, below-or-not, and-left, cond-true, con
 use Rattle.paper.specs.Setup.{Setup, Cell, cell, cells, next}
 use Rattle.paper.specs.State.{State, Day, mostSoilOf, soilAt, snowAt}
 use Rattle.paper.specs.Soil.{SoilDay, excess, wetDay, dryDay, soilDay}
-use Rattle.paper.specs.CellDay.{Today, today, ownOf, runoffOf, groundOf, Figures, openDay, landDay, cellDay}
+use Rattle.paper.specs.CellDay.{Today, today, groundOf, Figures, openDay, landDay}
 use Rattle.paper.specs.Flow.{water}
 use Rattle.paper.specs.Refusals.{Refusal, accepted, refused, verdict}
 use Rattle.paper.specs.Day.{Results, own, passed, figures, verdictOf, figuresOf}

@@ -4,7 +4,7 @@
 use mathlib.Core.Path.{_≡_, refl}
 use mathlib.Core.List.{List, [], _∷_, _++_}
 use Prim.Native.Nat.{ℕ, _+_}
-use lib.IntN.{ℤ, pos, negsuc}
+use lib.IntN.{ℤ, pos}
 use Rattle.theory.specs.Lowest.{orAt, lowest, isFound, some}
 use Rattle.theory.specs.Sums.{sum, given}
 use Rattle.theory.specs.Ways.{walk, onRing}

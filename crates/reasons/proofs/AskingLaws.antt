@@ -1,14 +1,14 @@
 -- The tests of the call: the cell asked about stands between tests 4 and 5, so that a refusal of tests 1 to 4 stays, and any other verdict gives way where the
 -- cell is outside the grid. And a store copied to the front of an array.
 use mathlib.Core.Path.{_≡_, refl, sym, ap, _∙_, subst}
-use mathlib.Core.Bool.{Bool, true, false, cond}
+use mathlib.Core.Bool.{true, false}
 use mathlib.Core.List.{List, [], _∷_, _++_}
 use Prim.Native.Nat.{ℕ, _+_, _≤_, _<_}
 use native.Mathlib.Omega.{arith}
 use lib.Dec.{leb, ltb}
 use lib.ListN.{length, getD, replicate, drop, length-replicate}
 use lib.Seq.{take-at}
-use borrow.Author.Tests.{lt-ltb, le-ltb, le-leb, lt-leb, ltb-false}
+use borrow.Author.Tests.{le-leb, lt-leb}
 use Rattle.theory.specs.Lists.{made, madeOver}
 use Rattle.theory.proofs.Cases.{byCases, and-both, and-second, cond-true, cond-false}
 use Rattle.theory.proofs.ListLaws.{made-length, made-of, over-length}
@@ -16,7 +16,7 @@ use Rattle.paper.specs.Limits.{within}
 use Rattle.paper.specs.Setup.{Setup, cells}
 use Rattle.paper.specs.State.{State, Day}
 use Rattle.paper.specs.Refusals.{Refusal, numberOf, cellNumbers, Verdict, accepted, refused, verdictNumber, Test, verdict, single, setupLengths, lentFirst, tableTests, flowTests, mapTests, setupTests, dayTests}
-use Rattle.paper.specs.Reasons.{whyTests, factsAt, explainedAs, whyOf}
+use Rattle.paper.specs.Reasons.{whyTests}
 use Rattle.paper.proofs.RefusalLaws.{pass-single, fail-single, accepted-then, refused-then, Numbered, numbered-front, numbered-rest, number-within, day-numbered}
 use Rattle.reasons.specs.Asked.{askedOf, Copied}
 

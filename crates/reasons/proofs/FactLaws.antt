@@ -1,15 +1,9 @@
 -- What the reasons speak of, from the figures of a day that was accepted: read back from them, it is the paper's, but for the inflow on land, of which no
 -- reason speaks, and for what open water has no use for.
-use mathlib.Core.Path.{_≡_, refl, sym, ap, _∙_}
-use mathlib.Core.Bool.{Bool, true, false, _&&_}
-use mathlib.Core.List.{List, [], _∷_, _++_}
+use mathlib.Core.Path.{_≡_, sym, ap, _∙_}
+use mathlib.Core.Bool.{false}
 use Prim.Native.Nat.{ℕ, _+_, _-_, _≤_, _<_}
-use lib.Dec.{eqb, ltb}
-use lib.ListN.{length, getD, List·getD-append}
-use borrow.Author.Tests.{eq-eqb, ltb-true}
-use Rattle.theory.specs.Lists.{made}
 use Rattle.theory.proofs.Cases.{byCases, cond-false}
-use Rattle.theory.proofs.ListLaws.{made-length, made-at}
 use Rattle.paper.specs.Setup.{Setup, Cell, cell, cells, coverOf, groupOf, availableOf}
 use Rattle.paper.specs.State.{State, Day, mostSoilOf, soilAt, snowAt}
 use Rattle.paper.specs.CurveNumber.{curveNumber}

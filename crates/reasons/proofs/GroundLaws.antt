@@ -5,12 +5,11 @@ use mathlib.Core.List.{List}
 use Prim.Native.Nat.{ℕ, _≤_, _<_}
 use native.Mathlib.Nat.{lt-of-lt-of-le}
 use lib.Dec.{eqb}
-use Rattle.theory.specs.Lowest.{lowest}
 use Rattle.theory.proofs.LowestLaws.{at-lowest, none-lowest}
 use Rattle.paper.specs.Covers.{codeOf, entries}
 use Rattle.paper.specs.Setup.{Setup, coverOf, groupOf, availableOf, placeOr, entryOf, isOpen, cell}
 use Rattle.records.proofs.PlaceLaws.{PassedTo}
-use Rattle.reasons.specs.Grounds.{Ground, entryFor, groundBy}
+use Rattle.reasons.specs.Grounds.{entryFor, groundBy}
 
 module _ (covers : List ℕ) (code e : ℕ) (passed : PassedTo (λ k. eqb (codeOf covers k) code) e) where
   pub entry-found : e < entries covers → eqb (codeOf covers e) code ≡ true → e ≡ entryFor covers code

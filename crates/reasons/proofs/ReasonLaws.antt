@@ -1,11 +1,11 @@
 -- The first true reason, test by test: each law has the tests that failed before it.
 use mathlib.Core.Path.{_≡_, sym, ap, _∙_}
 use mathlib.Core.Bool.{true, false, cond}
-use Prim.Native.Nat.{ℕ, _≤_, _<_}
-use lib.Dec.{eqb, leb, ltb}
+use Prim.Native.Nat.{_≤_, _<_}
+use lib.Dec.{eqb, ltb}
 use borrow.Author.Tests.{eq-eqb, ne-eqb, lt-ltb, le-ltb, le-leb, lt-leb}
 use Rattle.theory.proofs.Cases.{and-both, and-first, and-second, cond-true, cond-false}
-use Rattle.paper.specs.Reasons.{Facts, openWater, underSnow, noWater, belowPotential, roomForAll, aboveLargest, allRecharged, holds, reasonOf, Explanation, because, withDepths, explained}
+use Rattle.paper.specs.Reasons.{Facts, openWater, underSnow, noWater, belowPotential, roomForAll, aboveLargest, allRecharged, holds, reasonOf, because, withDepths, explained}
 
 module _ (f : Facts) where
   pub told-open : f .open? ≡ true → because openWater (f .gross) (f .inflow) ≡ explained f

@@ -15,15 +15,15 @@ use Rattle.theory.proofs.ListLaws.{made-length, made-at}
 use Rattle.paper.specs.Limits.{within}
 use Rattle.paper.specs.Setup.{Setup, cells, gridFits, coverOf, groupOf, availableOf}
 use Rattle.paper.specs.State.{State, Day, soilAt}
-use Rattle.paper.specs.Refusals.{Refusal, grid, lent, cellNumbers, numberOf, Verdict, accepted, refused, verdictNumber, verdict, single, oneEach, setupLengths, lentFirst, mapTests, setupTests, dayTests}
+use Rattle.paper.specs.Refusals.{Refusal, grid, lent, cellNumbers, numberOf, Verdict, accepted, refused, verdictNumber, verdict, single, oneEach, setupLengths, mapTests, setupTests, dayTests}
 use Rattle.paper.specs.Day.{Results, Outcome, resultsOf, nextState, lengthsOf, verdictOf, figuresOf, outcomeAs, dayOf}
-use Rattle.paper.specs.Reasons.{Facts, factsAt, Explanation, byRefusal, explained, explainedAs, whyTests, whyOf}
+use Rattle.paper.specs.Reasons.{factsAt, byRefusal, explained, explainedAs, whyOf}
 use Rattle.paper.proofs.RefusalLaws.{refused-then}
 use Rattle.paper.proofs.DayLaws.{sound-day, verdict-is, accepted-is}
 use Rattle.records.specs.Answers.{resultsAs}
 use Rattle.survey.proofs.CallLaws.{both, each-both, grid-bad, more-bad}
 use Rattle.reasons.specs.Grounds.{groundBy}
-use Rattle.reasons.specs.Reading.{Left, leftBy, factsFrom}
+use Rattle.reasons.specs.Reading.{leftBy, factsFrom}
 use Rattle.reasons.specs.Asked.{askedOf}
 use Rattle.reasons.proofs.AskingLaws.{asked-inside, asked-early, asked-outside, tests-asked}
 use Rattle.reasons.proofs.FactLaws.{leftOf, cell-read}

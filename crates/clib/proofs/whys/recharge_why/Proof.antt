@@ -1,7 +1,7 @@
 -- `whys::recharge_why` meets its contract: the library is handed what C lent, its explanation is written as C's numbers, and a cell's number has 32 bits, so that
 -- its refusal fits.
 use borrow.Author.Needs.{needs}
-use mathlib.Core.Path.{_≡_, ap, _∙_}
+use mathlib.Core.Path.{ap, _∙_}
 use Prim.Native.Nat.{_<_}
 use native.Mathlib.Omega.{arith}
 use Rattle.paper.specs.State.{Past}

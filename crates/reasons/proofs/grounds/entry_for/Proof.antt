@@ -1,5 +1,5 @@
 -- `grounds::entry_for` meets its contract: none of the entries that the search has passed has the code.
-use Prim.Native.Nat.{_/_, _*_, _≤_, _-_}
+use Prim.Native.Nat.{_/_, _≤_, _-_}
 use mathlib.Core.Path.{_≡_, _∙_}
 use native.Mathlib.Nat.{not-suc-le-zero}
 use native.Mathlib.Omega.{arith}

@@ -1,6 +1,6 @@
 -- `reading::facts_of` meets its contract: each fact is one difference or sum, and none passes 64 bits.
 use borrow.Author.Needs.{needs}
-use Rattle.reasons.specs.Reading.{infiltrationFrom, factsFrom}
+use Rattle.reasons.specs.Reading.{factsFrom}
 use Rattle.reasons.proofs.reading.facts_of.Statement.{statement}
 use Rattle.reasons.proofs.reading.facts_of.Tie as tie
 

@@ -1,5 +1,4 @@
 -- `reading::first_true` meets its contract: test by test, each with those that failed before it.
-use borrow.Author.Needs.{needs}
 use Rattle.reasons.proofs.ReasonLaws.{told-open, told-snow, told-none, told-below, told-room, told-above, told-all}
 use Rattle.reasons.proofs.reading.first_true.Statement.{statement}
 use Rattle.reasons.proofs.reading.first_true.Tie as tie

@@ -1,5 +1,4 @@
 -- `reading::sank_in` meets its contract: four numbers of 32 bits and one less.
-use native.Mathlib.Omega.{arith}
 use borrow.Author.Needs.{needs}
 use Rattle.reasons.specs.Reading.{infiltrationFrom}
 use Rattle.reasons.proofs.reading.sank_in.Statement.{statement}
