@@ -6,13 +6,6 @@ use intake::Input;
 use text::MOST_TEXT;
 use text::Written;
 
-// One byte more than the longest input, so that a longer one shows by its length.
-fn input_room() -> [u8; 65537]
-    ensures { λ r. ⌜ 65537 ≡ length r ⌝ }
-{
-    [0u8; 65537]
-}
-
 // Room for any text, in a function of its own: the checker writes a long array out in every function that makes one.
 fn output_room() -> [u8; MOST_TEXT]
     ensures { λ r. ⌜ 786461 ≡ length r ⌝ }
@@ -27,7 +20,7 @@ fn print(text: &[u8]) {
 }
 
 fn main() {
-    let mut input = input_room();
+    let mut input = intake::input_room();
     let Input::Bytes(count) = intake::read_input(b"balance: standard input", &mut input) else {
         return;
     };

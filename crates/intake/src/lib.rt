@@ -1,9 +1,18 @@
 // Standard input for the programs, whole or not at all.
+ghost use mathlib.Core.Path.{_≡_};
+ghost use lib.ListN.{length};
 ghost use Rattle.intake.specs.Input.{Within};
 
 pub enum Input {
     Bytes(usize),
     Failed,
+}
+
+// One byte more than the longest input, so that a longer one shows by its length.
+pub fn input_room() -> [u8; 65537]
+    ensures { λ r. ⌜ 65537 ≡ length r ⌝ }
+{
+    [0u8; 65537]
 }
 
 // Reads until the input ends or the buffer is full, and answers how many bytes stand at its front. A read that answers less than nothing has failed:

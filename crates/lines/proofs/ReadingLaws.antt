@@ -1,5 +1,5 @@
 -- The reader's way through a text, word by word: what is read of all of it is what is stored and what is left to read. Every code is below two
--- thousand million, where a word that is no number stands.
+-- thousand million, where a word that is no number stands, and gives its number back.
 use mathlib.Core.Path.{_≡_, refl, sym, ap, _∙_}
 use mathlib.Core.Bool.{Bool, true, false}
 use mathlib.Core.List.{List, [], _∷_}
@@ -19,7 +19,7 @@ use Rattle.words.specs.Spans.{part, NextWord}
 use Rattle.words.specs.declared.numbers.Meaning.the-variants.{Plain, Below, Bad}
 use Rattle.words.proofs.NumberLaws.{NineDigits, Small, number-small}
 use Rattle.words.proofs.WordLaws.{words-few}
-use Rattle.lines.specs.Reading.{Reading, andThen, meant, reading, mostBytes, given, negatives, code, codes, noNumber, codeOf, mostNumbers, formIn, Read}
+use Rattle.lines.specs.Reading.{Reading, andThen, meant, reading, mostBytes, given, negatives, code, codes, signed, noNumber, codeOf, mostNumbers, formIn, Read}
 use Rattle.lines.specs.declared.reading.Form.{Form}
 use Rattle.lines.specs.declared.reading.Form.the-variants.{Whole, Broken}
 
@@ -189,3 +189,34 @@ pub codes-small : (input : List ℕ) (k : ℕ) → getD (codesOf (given input)) 
 unfolding given reading codes
 codes-small input k =
     byCases (ltb mostBytes (length input)) (λ e. rw e (omega arith)) (λ e. rw e (meant-small (words input) k))
+
+-- every code gives its number back; past the last both lists have zeros
+pub code-back : (z : ℤ) → NineDigits z → signed (code z) ≡ z
+unfolding NineDigits signed code
+code-back (pos n) h = let less : n ≤ negatives = omega (arith, h) in rw (le-ltb negatives n less) refl
+code-back (negsuc m) h =
+    let more : negatives < negatives + suc m = omega arith in
+    rw (lt-ltb negatives (negatives + suc m) more) (ap negsuc (omega arith))
+
+abbrev Back : Reading → Type 0
+Back r = (k : ℕ) → signed (getD (codesOf r) k 0) ≡ getD (r .numbers) k (pos 0)
+
+none-back : (whole : Bool) → Back (record { numbers = []; whole = whole })
+unfolding codes signed
+none-back whole k = refl
+
+back-then : (m : Word) (rest : Reading) → Small m → Back rest → Back (andThen m rest)
+unfolding Small andThen codes
+back-then (good z) rest s back zero = code-back z s
+back-then (good z) rest s back (suc k) = back k
+back-then bad rest s back k = none-back false k
+
+meant-back : (ws : List (List ℕ)) → Back (meant ws)
+unfolding meant
+meant-back [] = none-back true
+meant-back (w ∷ ws) = back-then (number w) (meant ws) (number-small w) (meant-back ws)
+
+pub codes-back : (input : List ℕ) → Back (given input)
+unfolding given reading
+codes-back input k =
+    byCases (ltb mostBytes (length input)) (λ e. rw e (none-back false k)) (λ e. rw e (meant-back (words input) k))

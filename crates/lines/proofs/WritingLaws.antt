@@ -1,5 +1,5 @@
 -- What a line's parts put into the buffer one after another is the line, and its length is at most the parts' together.
-use mathlib.Core.Path.{_≡_, ap, _∙_}
+use mathlib.Core.Path.{_≡_, sym, ap, _∙_}
 use mathlib.Core.List.{List, [], _∷_, _++_, append-assoc}
 use Prim.Native.Nat.{ℕ, _+_, _^_, _≤_, _<_}
 use native.Mathlib.Nat.{le-refl}
@@ -21,6 +21,9 @@ pub wrote-as :
     {a at r : ℕ} {xs l l′ : List ℕ} (b : ℕ) (ys : List ℕ) → Wrote a at xs l l′ r → xs ≡ ys → length ys ≤ b
     → Wrote b at ys l l′ r
 wrote-as b ys w e h = record { put = put-as ys (w .put) e; short = h }
+
+pub wrote-whole : {a b at r : ℕ} {xs ys l l′ : List ℕ} → ys ≡ xs → a ≤ b → Wrote a at xs l l′ r → Wrote b at ys l l′ r
+wrote-whole {b = b} {ys = ys} e h w = wrote-as b ys w (sym e) (omega (arith, w .short, ap length e))
 
 pub wrote-bytes : {at r : ℕ} {xs l l′ : List ℕ} → Put at xs l l′ r → Wrote (length xs) at xs l l′ r
 wrote-bytes {xs = xs} p = record { put = p; short = le-refl (length xs) }

@@ -3,7 +3,9 @@ mod reading;
 mod telling;
 mod writing;
 
+pub use reading::BAD_TEXT;
 pub use reading::Form;
+pub use reading::MOST_BYTES;
 pub use reading::MOST_NUMBERS;
 pub use reading::NEGATIVES;
 pub use reading::NO_NUMBER;

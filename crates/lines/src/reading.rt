@@ -21,7 +21,10 @@ pub const NEGATIVES: u32 = 1000000000;
 pub const NO_NUMBER: u32 = 2000000000;
 
 // The longest text that is read.
-const MOST_BYTES: usize = 65536;
+pub const MOST_BYTES: usize = 65536;
+
+// The number of the refusal of a text's length or form.
+pub const BAD_TEXT: u64 = 11;
 
 // A number and the blank after it take two bytes, so 65,536 bytes hold at most so many.
 pub const MOST_NUMBERS: usize = 32768;

@@ -22,13 +22,6 @@ use Rattle.text.specs.declared.taking.Taken.the-variants.{Refused, Ready
 use Rattle.text.specs.declared.program.Written.{Written}
 use Rattle.text.specs.declared.program.Written.the-variants.{NoRoom, Bytes}
 use Rattle.text.proofs.TakingLaws.{ReadyText}
-use Rattle.lines.proofs.WritingLaws.{wrote-as}
-
--- what a function wrote is the whole text
-pub whole-text :
-    {most at next : ℕ} {xs ys before after : List ℕ} → ys ≡ xs → most ≤ mostText → Wrote most at xs before after next
-    → Wrote mostText at ys before after next
-whole-text {ys = ys} e h w = wrote-as mostText ys w (sym e) (omega (arith, w .short, ap length e))
 
 -- what is printed of a text that is taken up
 unfoldable takenText : List ℕ → Taken → List ℕ

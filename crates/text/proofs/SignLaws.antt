@@ -1,16 +1,15 @@
--- A code's number on the machine's signed numbers, and the code of a number that was read gives that number back.
+-- A code's number on the machine's signed numbers.
 use mathlib.Core.Path.{_≡_, refl, ap, _∙_}
 use Prim.Native.Nat.{ℕ, zero, suc, _+_, _-_, _≤_, _<_, min}
 use native.Mathlib.Nat.{not-suc-le-zero}
 use native.Mathlib.Omega.{arith}
 use lib.IntN.{ℤ, pos, negsuc, _-ℤ_}
-use lib.Signed.{mag}
 use mir.Syntax.{w32}
 use mir.Val.{SFits, toZ, ofZ}
 use mir.Facts.{toZ-ofZ, toZ-pos}
 use borrow.Author.Tests.{lt-ltb, le-ltb}
 use Rattle.theory.proofs.Cases.{below-or-not}
-use Rattle.lines.specs.Reading.{negatives, noNumber, code, signed}
+use Rattle.lines.specs.Reading.{negatives, noNumber, signed}
 use Rattle.text.specs.Laying.{degrees}
 
 below-zero : (c : ℕ) → negatives < c → pos 1000000000 -ℤ pos c ≡ negsuc (c - (negatives + 1))
@@ -52,11 +51,3 @@ none-degrees c h = let most : min c (noNumber - 1) ≡ 1999999999 = omega arith 
 pub degrees-kept : (c : ℕ) (z : ℤ) → z ≡ degrees c → toZ w32 (ofZ w32 z) ≡ degrees c
 unfolding degrees
 degrees-kept c z e = toZ-ofZ (rw e (signed-fits (min c (noNumber - 1)) (omega arith))) ∙ e
-
--- numbers of at most nine digits
-pub code-back : (z : ℤ) → mag z < negatives → signed (code z) ≡ z
-unfolding signed code
-code-back (pos n) h = let less : n ≤ negatives = omega arith in rw (le-ltb negatives n less) refl
-code-back (negsuc m) h =
-    let more : negatives < negatives + suc m = omega arith in
-    rw (lt-ltb negatives (negatives + suc m) more) (ap negsuc (omega arith))

@@ -9,6 +9,7 @@ use crate::fields::CELL_NUMBERS;
 use crate::fields::DAY_NUMBERS;
 use crate::fields::FRONT_NUMBERS;
 use covers::ENTRY_NUMBERS;
+use lines::BAD_TEXT;
 use lines::units;
 use records::Grid;
 use records::index_of;
@@ -19,8 +20,6 @@ pub(crate) enum Screened {
     // The count of cells.
     Ready(usize),
 }
-
-pub(crate) const TEXT: u64 = 11;
 
 const MOST_COVERS: u32 = 64;
 
@@ -45,7 +44,7 @@ pub(crate) fn screen(numbers: &[u32]) -> Screened
 {
     let count = numbers.len();
     if count < 2 {
-        return Screened::Refused(TEXT, units(count));
+        return Screened::Refused(BAD_TEXT, units(count));
     }
     let width = numbers[0];
     let height = numbers[1];
@@ -54,7 +53,7 @@ pub(crate) fn screen(numbers: &[u32]) -> Screened
         return Screened::Refused(1, 0);
     }
     if count < FRONT_NUMBERS {
-        return Screened::Refused(TEXT, units(count));
+        return Screened::Refused(BAD_TEXT, units(count));
     }
     let covers = numbers[4];
     if !covers_fit(covers) {
@@ -65,7 +64,7 @@ pub(crate) fn screen(numbers: &[u32]) -> Screened
         count,
         FRONT_NUMBERS + ENTRY_NUMBERS * index_of(covers) + CELL_NUMBERS * cells,
     ) {
-        return Screened::Refused(TEXT, units(count));
+        return Screened::Refused(BAD_TEXT, units(count));
     }
     Screened::Ready(cells)
 }

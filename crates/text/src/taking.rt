@@ -6,8 +6,8 @@ use crate::fields::CELL_NUMBERS;
 use crate::fields::DAY_NUMBERS;
 use crate::fields::cells_from;
 use crate::screening::Screened;
-use crate::screening::TEXT;
 use crate::screening::screen;
+use lines::BAD_TEXT;
 use lines::Form;
 use lines::MOST_NUMBERS;
 use lines::read;
@@ -61,6 +61,6 @@ pub fn take_up(input: &[u8], numbers: &mut [u32; MOST_NUMBERS]) -> Taken
             let all: &[u32] = numbers;
             screened(&all[..count])
         }
-        Form::Broken(count) => Taken::Refused(TEXT, units(count)),
+        Form::Broken(count) => Taken::Refused(BAD_TEXT, units(count)),
     }
 }

@@ -50,7 +50,7 @@ digits-more (suc m) h =
 pub digits-length : (n : ℕ) → 10 ≤ n → length (digits n) ≡ length (digits (n / 10)) + 1
 digits-length n h = ap length (digits-more n h) ∙ length-append (digits (n / 10)) ((48 + n % 10) ∷ [])
 
-digits-below : (k n : ℕ) → n < 10 * 10 ^ k → length (digits n) ≤ k + 1
+pub digits-below : (k n : ℕ) → n < 10 * 10 ^ k → length (digits n) ≤ k + 1
 digits-below zero n h = rw (digits-one n (omega arith)) (omega arith)
 digits-below (suc k) n h =
     below-or-not n 10 (λ one. rw (digits-one n one) (omega arith))

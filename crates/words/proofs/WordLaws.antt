@@ -1,5 +1,6 @@
 -- Words by their places: blanks before a word do not change the words, a run of other bytes is the first of them, and those after it are the words
--- from its end on. A word and the blank after it take two bytes, so that a text has at most half as many words as bytes, and one.
+-- from its end on. A word and the blank after it take two bytes, so that a text has at most half as many words as bytes, and one. Lines by theirs: the
+-- bytes before a line feed are the first of them, and those after it are the lines from there on; a line takes at least a byte.
 use mathlib.Core.Path.{_≡_, refl, sym, ap, _∙_}
 use mathlib.Core.Bool.{true, false, cond}
 use mathlib.Core.List.{List, [], _∷_}
@@ -10,8 +11,11 @@ use native.Mathlib.Omega.{arith}
 use lib.ListN.{length, getD, take, drop, length-drop, drop-of-length-le}
 use lib.Seq.{drop-cons, drop-drop}
 use Rattle.theory.proofs.Cases.{byCases, below-or-not}
-use Rattle.words.specs.Words.{isBlank, longer, pieces, kept, words}
-use Rattle.words.specs.Spans.{blanks, run, NextWord}
+use lib.Dec.{eqb}
+use Rattle.words.specs.Words.{isBlank, longer, pieces, kept, words, linesOf}
+use Rattle.words.specs.Spans.{stopsAt, before, blanks, run, lineRun, NextWord, NextLine}
+use Rattle.words.specs.declared.spans.Stop.{Stop}
+use Rattle.words.specs.declared.spans.Stop.the-variants.{Blank, LineFeed}
 
 -- the pieces after the first
 unfoldable after : List ℕ → List (List ℕ)
@@ -19,22 +23,22 @@ after [] = []
 after (b ∷ bs) = cond (isBlank b) (pieces bs) (after bs)
 
 first-piece : (l : List ℕ) → pieces l ≡ take (run l) l ∷ after l
-unfolding pieces longer run after
+unfolding pieces longer before stopsAt after
 first-piece [] = refl
 first-piece (b ∷ bs) = byCases (isBlank b) (λ e. rw e refl) (λ e. rw (e, first-piece bs) refl)
 
 after-run : (l : List ℕ) → kept (after l) ≡ words (drop (run l) l)
-unfolding pieces kept run after words
+unfolding pieces kept before stopsAt after words
 after-run [] = refl
 after-run (b ∷ bs) = byCases (isBlank b) (λ e. rw (e, e) refl) (λ e. rw e (after-run bs))
 
 words-skip : (l : List ℕ) → words (drop (blanks l) l) ≡ words l
-unfolding words pieces kept blanks
+unfolding words pieces kept before stopsAt
 words-skip [] = refl
 words-skip (b ∷ bs) = byCases (isBlank b) (λ e. rw e (words-skip bs)) (λ e. rw (e, e) refl)
 
 words-run : (l : List ℕ) → 1 ≤ run l → words l ≡ take (run l) l ∷ words (drop (run l) l)
-unfolding words kept run
+unfolding words kept before stopsAt
 words-run [] h = absurd (not-suc-le-zero h)
 words-run (b ∷ bs) h =
     byCases (isBlank b) (λ e. absurd (not-suc-le-zero (rw e at h)))
@@ -42,42 +46,30 @@ words-run (b ∷ bs) h =
 
 -- after the blanks a run begins, or the text is at its end
 words-none : (l : List ℕ) → run (drop (blanks l) l) ≡ 0 → words l ≡ []
-unfolding words pieces kept blanks run
+unfolding words pieces kept before stopsAt
 words-none [] h = refl
 words-none (b ∷ bs) h =
     byCases (isBlank b) (λ e. rw e (words-none bs (rw e at h)))
     (λ e. let none : suc (run bs) ≡ 0 = rw (e, e) at h in absurd (omega arith))
 
-run-inside : (l : List ℕ) → run l ≤ length l
-unfolding run
-run-inside [] = zero-le
-run-inside (b ∷ bs) = byCases (isBlank b) (λ e. rw e zero-le) (λ e. rw e (omega (arith, run-inside bs)))
+before-inside : (stop : Stop) (l : List ℕ) → before stop l ≤ length l
+unfolding before
+before-inside stop [] = zero-le
+before-inside stop (b ∷ bs) = byCases (stopsAt stop b) (λ e. rw e zero-le) (λ e. rw e (omega (arith, before-inside stop bs)))
 
 -- what a loop over the bytes learns from the byte at its place
-module _ (l : List ℕ) (i : ℕ) where
-  pub blanks-more : i < length l → isBlank (getD l i 0) ≡ true → blanks (drop i l) ≡ suc (blanks (drop (i + 1) l))
-  unfolding blanks
-  blanks-more h e = rw (drop-cons l i 0 h, e, add-one i) refl
+module _ (stop : Stop) (l : List ℕ) (i : ℕ) where
+  pub before-more : i < length l → stopsAt stop (getD l i 0) ≡ false → before stop (drop i l) ≡ suc (before stop (drop (i + 1) l))
+  unfolding before
+  before-more h e = rw (drop-cons l i 0 h, e, add-one i) refl
 
-  pub blanks-stop : i < length l → isBlank (getD l i 0) ≡ false → blanks (drop i l) ≡ 0
-  unfolding blanks
-  blanks-stop h e = rw (drop-cons l i 0 h, e) refl
+  pub before-stop : i < length l → stopsAt stop (getD l i 0) ≡ true → before stop (drop i l) ≡ 0
+  unfolding before
+  before-stop h e = rw (drop-cons l i 0 h, e) refl
 
-  pub blanks-end : length l ≤ i → blanks (drop i l) ≡ 0
-  unfolding blanks
-  blanks-end h = rw (drop-of-length-le l {i = i} h) refl
-
-  pub run-more : i < length l → isBlank (getD l i 0) ≡ false → run (drop i l) ≡ suc (run (drop (i + 1) l))
-  unfolding run
-  run-more h e = rw (drop-cons l i 0 h, e, add-one i) refl
-
-  pub run-stop : i < length l → isBlank (getD l i 0) ≡ true → run (drop i l) ≡ 0
-  unfolding run
-  run-stop h e = rw (drop-cons l i 0 h, e) refl
-
-  pub run-end : length l ≤ i → run (drop i l) ≡ 0
-  unfolding run
-  run-end h = rw (drop-of-length-le l {i = i} h) refl
+  pub before-end : length l ≤ i → before stop (drop i l) ≡ 0
+  unfolding before
+  before-end h = rw (drop-of-length-le l {i = i} h) refl
 
 module _ (text : List ℕ) (from start end : ℕ) (skipped : start ≡ from + blanks (drop from text)) (ran : end ≡ start + run (drop start text)) where
   rest : drop start text ≡ drop (blanks (drop from text)) (drop from text)
@@ -105,7 +97,7 @@ module _ (text : List ℕ) (from start end : ℕ) (skipped : start ≡ from + bl
         ends = ran;
         found = is-found;
         none = is-none;
-        inside = λ h. omega (arith, ran, run-inside (drop start text), length-drop start text);
+        inside = λ h. omega (arith, ran, before-inside Blank (drop start text), length-drop start text);
         forward = omega (arith, skipped);
         ordered = omega (arith, ran);
       }
@@ -128,10 +120,42 @@ half l h =
     below-or-not (run l) 1 (λ none. omega (arith, words-none-first l (omega arith))) (λ some. omega (arith, words-one l))
 
 words-after : (l : List ℕ) → 2 * length (kept (after l)) + run l ≤ length l
-unfolding after kept run words
+unfolding after kept before stopsAt words
 words-after [] = zero-le
 words-after (b ∷ bs) =
     byCases (isBlank b) (λ e. rw e (omega (arith, half bs (words-after bs)))) (λ e. rw e (omega (arith, words-after bs)))
 
 pub words-few : (l : List ℕ) → 2 * length (words l) ≤ length l + 1
 words-few l = half l (words-after l)
+
+-- ---- lines
+lines-first : (l : List ℕ) → 0 < length l → linesOf l ≡ take (lineRun l) l ∷ linesOf (drop (suc (lineRun l)) l)
+unfolding linesOf longer before stopsAt
+lines-first [] h = absurd (not-suc-le-zero h)
+lines-first (b ∷ []) h = byCases (eqb b 10) (λ e. rw e refl) (λ e. rw e refl)
+lines-first (b ∷ x ∷ bs) h =
+    byCases (eqb b 10) (λ e. rw e refl) (λ e. rw (e, lines-first (x ∷ bs) (omega arith)) refl)
+
+longer-one : (b : ℕ) (ls : List (List ℕ)) → length (longer b ls) ≤ length ls + 1
+unfolding longer
+longer-one b [] = omega arith
+longer-one b (l ∷ ls) = omega arith
+
+pub lines-few : (l : List ℕ) → length (linesOf l) ≤ length l
+unfolding linesOf
+lines-few [] = zero-le
+lines-few (b ∷ bs) =
+    byCases (eqb b 10) (λ e. rw e (omega (arith, lines-few bs))) (λ e. rw e (omega (arith, longer-one b (linesOf bs), lines-few bs)))
+
+pub next-line : (text : List ℕ) (from end : ℕ) → end ≡ from + lineRun (drop from text) → NextLine text from end
+next-line text from end ran =
+    let width : end - from ≡ lineRun (drop from text) = omega (arith, ran) in
+    let after : end + 1 ≡ from + suc (lineRun (drop from text)) = omega (arith, ran) in
+    record {
+      ends = ran;
+      found = λ h.
+          lines-first (drop from text) (omega (arith, length-drop from text))
+          ∙ rw (width, after, drop-drop (suc (lineRun (drop from text))) from text) refl;
+      inside = λ h. omega (arith, ran, before-inside LineFeed (drop from text), length-drop from text);
+      forward = omega (arith, ran);
+    }

@@ -1,4 +1,4 @@
--- A text as words: the maximal runs of bytes other than space and line feed. A byte is its number: 32 a space, 10 a line feed.
+-- A text as words, the maximal runs of bytes other than space and line feed, and as lines. A byte is its number: 32 a space, 10 a line feed.
 use mathlib.Core.Bool.{Bool, cond, _||_}
 use mathlib.Core.List.{List, [], _∷_}
 use Prim.Native.Nat.{ℕ}
@@ -24,3 +24,8 @@ kept ((b ∷ p) ∷ ps) = (b ∷ p) ∷ kept ps
 
 unfoldable pub words : List ℕ → List (List ℕ)
 words text = kept (pieces text)
+
+-- the lines: each ends with a line feed, which the last may lack
+unfoldable pub linesOf : List ℕ → List (List ℕ)
+linesOf [] = []
+linesOf (b ∷ bs) = cond (eqb b 10) ([] ∷ linesOf bs) (longer b (linesOf bs))

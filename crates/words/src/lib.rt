@@ -1,5 +1,5 @@
-// Words and whole numbers as bytes, both ways. A reader asks for the next word and for the number that it means; a writer writes what fits and says
-// where it would end.
+// Words and whole numbers as bytes, both ways. A reader asks for the next word, or for a line's end, and for the number that a word means; a writer writes
+// what fits and says where it would end.
 mod numbers;
 mod putting;
 mod spans;
@@ -12,4 +12,5 @@ pub use putting::put_bytes;
 pub use putting::put_item;
 pub use putting::put_number;
 pub use spans::Span;
+pub use spans::line_end;
 pub use spans::next_word;

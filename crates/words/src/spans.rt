@@ -1,14 +1,21 @@
-// The words of a text, one after another.
+// The words of a text, one after another, and its lines.
 ghost use mathlib.Core.Path.{_≡_};
 ghost use Prim.Native.Nat.{_+_};
 ghost use lib.ListN.{drop};
 ghost use Rattle.words.specs.Words.{isBlank};
-ghost use Rattle.words.specs.Spans.{blanks, run as runOf, NextWord};
+ghost use Rattle.words.specs.Spans.{stopsAt, before, NextWord, NextLine};
 
 // A word's bytes: from `start` up to `end`. Where `end` is not past `start`, there is none.
 pub struct Span {
     pub start: usize,
     pub end: usize,
+}
+
+// The kind of byte that is searched for.
+enum Stop {
+    WordByte,
+    Blank,
+    LineFeed,
 }
 
 fn is_blank(b: u8) -> bool
@@ -17,38 +24,41 @@ fn is_blank(b: u8) -> bool
     (b == b' ') | (b == b'\n')
 }
 
-// The first place from `from` on that has no blank.
-fn skip(text: &[u8], from: usize) -> usize
-    ensures { λ r. ⌜ r ≡ from + blanks (drop from (now (text .entry))) ⌝ }
+fn stops_at(stop: Stop, b: u8) -> bool
+    ensures { λ r. ⌜ r ≡ stopsAt stop b ⌝ }
 {
-    let mut start = from;
-    while start < text.len() {
-        if !is_blank(text[start]) {
-            return start;
-        }
-        start += 1;
+    match stop {
+        Stop::WordByte => !is_blank(b),
+        Stop::Blank => is_blank(b),
+        Stop::LineFeed => b == b'\n',
     }
-    start
 }
 
-// The first place from `from` on that has a blank, or the text's end.
-fn run(text: &[u8], from: usize) -> usize
-    ensures { λ r. ⌜ r ≡ from + runOf (drop from (now (text .entry))) ⌝ }
+// The first place from `from` on that has such a byte, or the text's end.
+fn search(text: &[u8], from: usize, stop: Stop) -> usize
+    ensures { λ r. ⌜ r ≡ from + before stop (drop from (now (text .entry))) ⌝ }
 {
-    let mut end = from;
-    while end < text.len() {
-        if is_blank(text[end]) {
-            return end;
+    let mut at = from;
+    while at < text.len() {
+        if stops_at(stop, text[at]) {
+            return at;
         }
-        end += 1;
+        at += 1;
     }
-    end
+    at
 }
 
 pub fn next_word(text: &[u8], from: usize) -> Span
     ensures { λ r. ⌜ NextWord (now (text .entry)) from (r .start) (r .end) ⌝ }
 {
-    let start = skip(text, from);
-    let end = run(text, start);
+    let start = search(text, from, Stop::WordByte);
+    let end = search(text, start, Stop::Blank);
     Span { start, end }
+}
+
+// Where the line that begins at `from` ends: before its line feed, or at the text's end.
+pub fn line_end(text: &[u8], from: usize) -> usize
+    ensures { λ r. ⌜ NextLine (now (text .entry)) from r ⌝ }
+{
+    search(text, from, Stop::LineFeed)
 }

@@ -5,7 +5,8 @@ use Rattle.text.proofs.program.text.Tie as tie
 use Prim.Native.Nat.{ℕ}
 use native.Mathlib.Omega.{arith}
 use lib.ListN.{length-replicate}
-use Rattle.text.proofs.PrintedLaws.{whole-text, text-refused, text-runs}
+use Rattle.lines.proofs.WritingLaws.{wrote-whole}
+use Rattle.text.proofs.PrintedLaws.{text-refused, text-runs}
 use Rattle.text.proofs.TakingLaws.{ReadyText, ready-text}
 
 -- what a text that is ready has
@@ -24,12 +25,12 @@ started-requires c κs = let r = ready (c .before .before .before) in (r .comple
 returns : tie.Need-returns
 returns c = let refused = c .before .before in
     let told = refused .before .before .before in
-    whole-text (text-refused _ _ _ _ (told .before .before .take-up .ensures) _ _ (told .number .given .1)) (omega arith) (refused .refused .ensures)
+    wrote-whole (text-refused _ _ _ _ (told .before .before .take-up .ensures) _ _ (told .number .given .1)) (omega arith) (refused .refused .ensures)
 
 returns-2 : tie.Need-returns-2
 returns-2 c = let started = c .before .before in
     let told = started .before .before .before .before in
-    whole-text (text-runs _ _ _ _ (told .before .before .take-up .ensures) _ (told .layout .given .1) (ready told)) (omega arith) (started .started .ensures)
+    wrote-whole (text-runs _ _ _ _ (told .before .before .take-up .ensures) _ (told .layout .given .1) (ready told)) (omega arith) (started .started .ensures)
 
 pub text-spec : {M : Type 1} → statement M
 text-spec =

@@ -7,7 +7,7 @@ use native.Mathlib.Omega.{arith}
 use Rattle.paper.specs.State.{State}
 use Rattle.records.specs.Past.{stateAs}
 use Rattle.records.specs.Verdicts.{verdictAs}
-use Rattle.text.proofs.PrintedLaws.{whole-text}
+use Rattle.lines.proofs.WritingLaws.{wrote-whole}
 use Rattle.text.proofs.StartLaws.{days-ready, start-refused, start-runs}
 
 -- the places that the needs name: from the stores after the fresh state back to it, the climate read and the start
@@ -49,7 +49,7 @@ returns c = let refusal = c .before .before in
     let lent = told .before .before in
     let at = climate (fresh lent) in
     let p = start at .pre in
-    whole-text
+    wrote-whole
     (start-refused _ _ _ _ _ _ _ _ _ (p .0) (p .1) _ _ (at .before .grid-in .ensures) (at .climate-in .ensures) (left (fresh lent)) (verdictAs (fresh lent .fresh .result .verdict)) _
     (fresh lent .fresh .ensures) (ap verdictAs (told .verdict .given .1)))
     (omega arith)
@@ -61,7 +61,7 @@ returns-2 c = let days = c .before .before .before .before .before .before in
     let lent = told .before .before in
     let at = climate (fresh lent) in
     let p = start at .pre in
-    whole-text
+    wrote-whole
     (start-runs _ _ _ _ _ _ _ _ _ (p .0) (p .1) _ _ (at .before .grid-in .ensures) (at .climate-in .ensures) (left (fresh lent)) (verdictAs (fresh lent .fresh .result .verdict))
     (fresh lent .fresh .ensures) (ap verdictAs (told .enum-told .given .1)))
     (omega arith)
