@@ -4,8 +4,9 @@
     bench/slips.py [EACH [FILE..]]
 
 Works on a copy of theory and paper in a temporary folder. A slip changes one place of crates/paper/specs: a number one up
-or one down, ltb for leb or leb for ltb, && for || or || for &&, + for - or - for +, also of integers. Every name that a slip
-can bring in is in scope in the copy, so that a slip is refused by a law and not for a name. Of all slips every EACH-th is
+or one down, ltb for leb or leb for ltb, && for || or || for &&, + for - or - for +, also of integers; of binary64 lt for le
+or le for lt, ⊕ for ⊖, ⊗ for ⊘ and back; true for false or false for true. Every name that a slip can bring in is in scope in
+the copy, so that a slip is refused by a law and not for a name. Of all slips every EACH-th is
 tried (default 1; a hundred take some minutes), in the FILEs named (default all). Prints each slip that passes, with its file
 and line, and at the end their count. A slip that passes is either no change of meaning or one that no law sees. Needs python3
 and rt."""
@@ -13,8 +14,9 @@ import re, shutil, subprocess, sys, tempfile
 from pathlib import Path
 
 ROOT = Path(__file__).resolve().parent.parent
-SWAPS = [("ltb", "leb"), ("leb", "ltb"), ("&&", "||"), ("||", "&&"), (" + ", " - "), (" - ", " + "), (" +ℤ ", " -ℤ "), (" -ℤ ", " +ℤ ")]
-SCOPE = {"mathlib.Core.Bool": ["_&&_", "_||_"], "lib.Dec": ["leb", "ltb"], "Prim.Native.Nat": ["_+_", "_-_"], "lib.IntN": ["_+ℤ_", "_-ℤ_"]}
+SWAPS = [("ltb", "leb"), ("leb", "ltb"), ("lt", "le"), ("le", "lt"), ("&&", "||"), ("||", "&&"), (" + ", " - "), (" - ", " + "), (" +ℤ ", " -ℤ "), (" -ℤ ", " +ℤ "),
+         (" ⊕ ", " ⊖ "), (" ⊖ ", " ⊕ "), (" ⊗ ", " ⊘ "), (" ⊘ ", " ⊗ "), ("true", "false"), ("false", "true")]
+SCOPE = {"mathlib.Core.Bool": ["true", "false", "_&&_", "_||_"], "lib.Dec": ["leb", "ltb"], "Prim.Native.Nat": ["_+_", "_-_"], "lib.IntN": ["_+ℤ_", "_-ℤ_"]}
 
 
 def in_scope(text):
@@ -32,7 +34,7 @@ def in_scope(text):
 
 def places(line):
     """Every slip of one line, as the line that it makes."""
-    if re.match(r"\s*(--|use |pub mod|[\w,\s]*}?$)", line) and "=" not in line:
+    if re.match(r"\s*(--|use |pub mod|infix|[\w,\s]*}?$)", line) and "=" not in line:
         return
     code = line.split("--")[0]
     for m in re.finditer(r"(?<![\w'-])(?<!Type )\d+(?![\w'-])", code):

@@ -22,3 +22,5 @@ pub mod WorkedDay
 pub mod ReasonLaws
 pub mod ReadBackLaws
 pub mod WhyFigures
+pub mod RadiationLaws
+pub mod RadiationFigures

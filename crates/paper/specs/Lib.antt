@@ -17,3 +17,4 @@ pub mod Refusals
 pub mod Day
 pub mod Run
 pub mod Reasons
+pub mod Radiation

@@ -7,3 +7,5 @@ pub mod LowestLaws
 pub mod WayLaws
 pub mod Widths
 pub mod AlongLaws
+pub mod RoundingLaws
+pub mod BoundLaws
