@@ -1,0 +1,2 @@
+-- A day's weather and its estimate as the paper has them.
+pub mod Estimates
