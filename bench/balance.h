@@ -2,7 +2,8 @@
  *
  * Every implementation offers the same three functions under its own prefix
  * (plain_, fast_, ...), so that they can be linked into one program and compared
- * cell by cell; all but the fast one also say why a cell got its figures (M-105).
+ * cell by cell; all but the fast one also say why a cell got its figures (M-105)
+ * and have a day's two estimates of potential evapotranspiration (M-103).
  * The law is document 01 as the requests of document 02 that have landed amend it;
  * "rule" and "test" numbers are document 01's.
  *
@@ -86,9 +87,16 @@ static inline struct explained explained(uint64_t returned, const uint64_t reaso
     return (struct explained){returned, reason[0], reason[1], reason[2]};
 }
 
+/* Potential evapotranspiration from radiation: 13 at 0, or the estimate of a mean in degrees Celsius, of
+ * radiation in cal/cm2 a day and, by Turc, of humidity in percent. Refused: an estimate of 0. */
+typedef uint64_t balance_turc(double mean, double radiation, double humidity, uint64_t *potential);
+typedef uint64_t balance_jensen_haise(double mean, double radiation, uint64_t *potential);
+
 balance_check plain_check, fast_check;
 balance_fresh plain_fresh, fast_fresh;
 balance_day plain_day, fast_day;
 balance_why plain_why;
+balance_turc plain_turc;
+balance_jensen_haise plain_jensen_haise;
 
 #endif

@@ -9,6 +9,8 @@ balance_check recharge_check;
 balance_fresh recharge_fresh;
 balance_day recharge_day;
 balance_why recharge_why;
+balance_turc recharge_turc;
+balance_jensen_haise recharge_jensen_haise;
 balance_text recharge_text;
 
 _Static_assert((int)RECHARGE_MAX_CELLS == (int)BALANCE_MAX_CELLS && (int)RECHARGE_MAX_COVERS == (int)BALANCE_MAX_COVERS, "limits");

@@ -1,15 +1,17 @@
 /* recharge.h: a groundwater office's daily soil-water balance, proved, for C.
  *
- * A setup check, a fresh state, one day, why a cell got its figures that day, and the program's whole text. What they do is the law
- * of documents 01 and 02 (of 02: M-106, frozen ground, M-100, melt in millimetres, M-104, rejected recharge runs on downhill, and
- * M-105, why this cell got that figure; M-102, a smaller program, moves no figure; docs/RULES.md has the rules in plain words); that
+ * A setup check, a fresh state, one day, why a cell got its figures that day, a day's potential evapotranspiration from radiation by
+ * two estimates, and the program's whole text. What they do is the law of documents 01 and 02 (of 02: M-106, frozen ground, M-100,
+ * melt in millimetres, M-104, rejected recharge runs on downhill, M-105, why this cell got that figure, and M-103, potential
+ * evapotranspiration from radiation; M-102, a smaller program, moves no figure; docs/RULES.md has the rules in plain words); that
  * they do it, for every input, refused or not, is proved (crates/clib, docs/PROMISES.md). "Test" and "rule" numbers are document 01's.
  *
  * Build the library with `rt staticlib clib` and link target/staticlib/libclib.a, for x86-64 Linux. Of the C library it needs
  * memcpy and memset, and nothing else. examples/c has two programs over it.
  *
  * Units: a depth is a whole number of 0.0001 inch, a temperature a whole number of tenths of a degree Fahrenheit, a frost
- * index and its setpoints whole numbers of thousandths of a Celsius degree-day.
+ * index and its setpoints whole numbers of thousandths of a Celsius degree-day. Only what the two estimates from radiation read is
+ * otherwise: doubles, the mean temperature in degrees Celsius.
  * Cells are numbered from 0, row by row from the top left.
  *
  * TWO WAYS TO CALL. With structs: fill a recharge_setup, a recharge_state and recharge_results, and call recharge_check_setup,
@@ -18,8 +20,10 @@
  * every slice is a pointer and its own count of numbers.
  *
  * Pointers: none is NULL, not even for a count of 0, and each points to as many numbers as its count or its declaration says.
- * What a call may write overlaps nothing else that it is handed. That much is the caller's word: nothing can test it. Everything
- * else is tested: there is an answer for every number and every count.
+ * What a call may write overlaps nothing else that it is handed. That much is the caller's word: nothing can test it. For the two
+ * estimates from radiation it is also that the processor rounds doubles to the nearest and takes none that is near 0 for 0, as every
+ * C program starts (so no fesetround, and no flush-to-zero, which a program linked with -ffast-math may set). Everything else is
+ * tested: there is an answer for every number, every double and every count.
  *
  * Nothing is kept between calls, no memory is taken, and calls on different slices may run at the same time. A call uses
  * less than 100,000 bytes of stack where it says no other figure.
@@ -38,8 +42,10 @@
  *   8  the serial does not follow the last one: at 0
  *   9  the state outside its limits: at the cell; at the cell count for the memory or the frost index
  *  10  snowfall would take a store past 10,000,000: at the cell
+ *  13  a reading for an estimate from radiation outside its limits, or not a number: at 0
  *
- * The setup check and the fresh state use 1 to 6, a day and why 1 to 10. What a refused call leaves and writes stands with each call.
+ * The setup check and the fresh state use 1 to 6, a day and why 1 to 10, the two estimates 13 alone. What a refused call leaves and
+ * writes stands with each call.
  */
 #ifndef RECHARGE_H
 #define RECHARGE_H
@@ -219,6 +225,28 @@ uint64_t recharge_why(struct recharge_site site,
                       const uint32_t *snow, size_t snow_len,
                       const uint32_t memory[RECHARGE_MEMORY], uint32_t last_serial, uint32_t frost_index,
                       struct recharge_day_record day, uint32_t cell, uint64_t reason[RECHARGE_REASON]);
+
+/* Potential evapotranspiration of a day from radiation (M-103), by Turc and by Jensen-Haise.
+ *
+ *   mean           T, the day's mean temperature in degrees Celsius, -60 to 60
+ *   radiation      R, in cal/cm2 a day, 0 to 1,000
+ *   humidity       H, in percent, 0 to 100; Jensen-Haise has none
+ *   potential      is written: the estimate in units of 0.0001 inch
+ *
+ * Both ends of a limit are inside, and -0.0 is 0. A reading outside its limits, an infinity or what is not a number is refusal 13 at 0,
+ * and the estimate is 0; of readings inside none is refused. In millimetres:
+ *
+ *   Turc           0 if T <= 0, else ((0.013 x T) / (T + 15)) x (R + 50), and that times (1 + (50 - H) / 70) if H < 50
+ *   Jensen-Haise   (R / 59) x (0.025 x T + 0.08), or 0 if that is below 0
+ *
+ * These times 100,000, divided by 254, are units, and the estimate is the greatest whole number not above. Each operation is one of
+ * doubles (binary64), rounded once to the nearest in the order written, and so is each constant: every machine gives the same
+ * estimate, and where exact numbers lie at a whole number or within a hair of one, it can be one off (by Turc 4.5, 77 and 60 give 149,
+ * and exact numbers 150). It never passes 20,000: cast to uint32_t, it can stand in recharge_day_record.potential as it is. But look at
+ * what came back first, since a day without potential evapotranspiration is a 0 as well. The mean of that record is another number, in
+ * tenths of a degree Fahrenheit. */
+uint64_t recharge_turc(double mean, double radiation, double humidity, uint64_t *potential);
+uint64_t recharge_jensen_haise(double mean, double radiation, uint64_t *potential);
 
 /* The program `balance` as a function: what it prints for the input's bytes.
  *

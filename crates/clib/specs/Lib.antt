@@ -4,3 +4,4 @@ pub mod Handed
 pub mod Narrow
 pub mod Texts
 pub mod Whys
+pub mod Estimates

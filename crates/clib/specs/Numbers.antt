@@ -9,8 +9,11 @@ use Rattle.paper.specs.Refusals.{Verdict, verdictNumber, verdictPlace}
 use Rattle.paper.specs.Day.{Totals}
 
 -- 0 where a call accepts, else number × 2^32 + place
+abbrev pub numbered : ℕ → ℕ → ℕ
+numbered number place = number * 4294967296 + place
+
 unfoldable pub returned : Verdict → ℕ
-returned v = verdictNumber v * 4294967296 + verdictPlace v
+returned v = numbered (verdictNumber v) (verdictPlace v)
 
 -- five figures, oldest first
 unfoldable pub memoryFrom : List ℕ → Memory

@@ -4,7 +4,7 @@ ghost use Prim.Native.Nat.{_<_};
 ghost use Rattle.paper.specs.Refusals.{verdictPlace};
 ghost use Rattle.records.specs.Verdicts.{verdictAs};
 ghost use Rattle.clib.specs.Narrow.{narrow};
-ghost use Rattle.clib.specs.Numbers.{returned};
+ghost use Rattle.clib.specs.Numbers.{numbered as both, returned};
 use records::Depth;
 use records::FrostIndex;
 use records::Verdict;
@@ -24,11 +24,18 @@ pub(crate) fn index(figure: u32) -> FrostIndex
     FrostIndex(figure as u64)
 }
 
-// 0 where it accepts, else the paper's number × 2^32 + its place.
+// A refusal's number × 2^32 + its place; 0 of 0 and 0, which is none.
+pub(crate) fn numbered(number: u32, place: usize) -> u64
+    requires { ⌜ place < narrow ⌝ }
+    ensures { λ r. ⌜ r ≡ both number place ⌝ }
+{
+    wide(number) * NUMBER + place as u64
+}
+
+// 0 where it accepts.
 pub(crate) fn returned_as(verdict: Verdict) -> u64
     requires { ⌜ verdictPlace (verdictAs verdict) < narrow ⌝ }
     ensures { λ r. ⌜ r ≡ returned (verdictAs verdict) ⌝ }
 {
-    let place = verdict.place();
-    wide(verdict.number()) * NUMBER + place as u64
+    numbered(verdict.number(), verdict.place())
 }
