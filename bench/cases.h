@@ -4,6 +4,7 @@
 #define CASES_H
 
 #include "balance.h"
+#include "binary64.h"
 
 #include <stdbool.h>
 
@@ -86,7 +87,36 @@ uint64_t damage_call(const struct grid_case *g, struct state_case *s, struct rec
 enum { FRESH_SLICES = 2 };
 uint64_t damage_length_of(struct state_case *s, uint32_t cells, unsigned slices);
 
-/* A text for the program (cases_text.c): nearly valid or damaged; or a valid one of a winter whose
+/* ---------------------------------------------------------------- readings (M-103): cases_radiation.c */
+
+/* What the estimates from radiation read of a day. */
+enum { MEAN, RADIATION, HUMIDITY, READINGS };
+struct readings_case {
+    double reading[READINGS];
+    bool by_station;          /* then they were these: tenths of a degree, whole cal/cm2 and percent */
+    int32_t number[READINGS];
+};
+
+/* As a station has them; any within the limits; at or beside the numbers at which something turns; or with
+ * one that is strange, of any bits at all. */
+void make_readings(struct readings_case *c);
+
+/* Found apart from the implementations, with no arithmetic on doubles: does a reading lie within its limits,
+ * and what are the units of readings that do, to the last bit? */
+bool case_fits(int which, double reading);
+struct binary64 case_turc(const double *reading);
+struct binary64 case_jensen_haise(const double *reading);
+
+/* The same of a station's readings in exact numbers, which are not rounded: units as a fraction. */
+struct exact {
+    int64_t above, below;
+};
+struct exact case_exact_turc(const int32_t *number);
+struct exact case_exact_jensen_haise(const int32_t *number);
+
+/* ---------------------------------------------------------------- texts: cases_text.c */
+
+/* A text for the program: nearly valid or damaged; or a valid one of a winter whose
  * frost comes and goes. Each returns its length. */
 size_t make_text(unsigned char *bytes);
 /* `hits` grows by the days whose frost index is a setpoint of the program or one beside it. */

@@ -5,9 +5,10 @@
 #
 # Builds all of them for this machine, checks the papers' figures and the worked example, and runs the implementations side by
 # side on random and damaged cases: every returned number, store, result cell, total, memory, serial and frost index, and
-# why cells got their figures, which the fast C does not say. A difference prints its seed and fails. It proves the library
-# first where it is not proved yet, which takes minutes. After `rt ci` or `rt check` only `clib` is proved once more, on its way
-# to the archive, in under a minute; the rest takes seconds.
+# why cells got their figures, which the fast C does not say. Nor has it the estimates from radiation: those of the plain C and of
+# the library are held to binary64 worked out in integers, of readings at every limit, beside it and of odd bits. A difference
+# prints its seed and fails. It proves the library first where it is not proved yet, which takes minutes. After `rt ci` or
+# `rt check` only `clib` is proved once more, on its way to the archive, in under a minute; the rest takes seconds.
 #
 # PROVED=no leaves the proved library out. Another implementation of balance.h, with the prefix other_, stands in for it by
 #     THIRD=other THIRD_TEXT=other THIRD_OBJECTS="path/other.o ..." ./compare.sh
@@ -18,7 +19,6 @@ mkdir -p build
 . ./files.sh
 
 CC=${CC:-cc}
-WARN="-std=c11 -Wall -Wextra -Wconversion -Wshadow"
 SHIPPED=no
 if [ "${PROVED:-yes}" = yes ] && [ -z "${THIRD:-}" ]; then
     ./native.sh clib build/libclib.a

@@ -1,5 +1,5 @@
 /* Document 01's worked example and its "Figures to check against", of melt those of M-100, M-106's
- * (figures_frost.c), and M-105's, worked by hand (figures_reasons.c).
+ * (figures_frost.c), M-105's, worked by hand (figures_reasons.c), and M-103's (figures_radiation.c).
  *
  * Every figure is checked of the plain C's single rules, and again of every implementation in the
  * table through whole days of a one-cell grid. Prints each figure; fails if any differs. */
@@ -191,10 +191,12 @@ int main(void)
 {
     rules();
     frost_rules();
+    radiation_rules();
     for (size_t i = 0; i < implementations_count; i++) {
         days(&implementations[i]);
         frost_days(&implementations[i]);
         reason_days(&implementations[i]);
+        radiation_days(&implementations[i]);
     }
     for (size_t i = 0; i < texts_count; i++)
         example(&texts[i]);

@@ -29,4 +29,8 @@ void frost_days(const struct implementation *x);
 /* M-105: of an implementation that says why (figures_reasons.c). */
 void reason_days(const struct implementation *x);
 
+/* M-103: by the plain C's single rules, then by an implementation that has the estimates (figures_radiation.c). */
+void radiation_rules(void);
+void radiation_days(const struct implementation *x);
+
 #endif

@@ -5,24 +5,26 @@
 #include "cases.h"
 #include "table.h"
 
-enum { MOST_IMPLEMENTATIONS = 8, REFUSALS = 12, GUARD = 1 };
+enum { MOST_IMPLEMENTATIONS = 8, REFUSALS = 14, GUARD = 1 };
 
 /* ---------------------------------------------------------------- what happened: fuzz_counts.c */
 
 struct tally {
     uint64_t check[REFUSALS], fresh[REFUSALS], day[REFUSALS], why[REFUSALS], text[REFUSALS];
+    uint64_t turc[REFUSALS], jensen_haise[REFUSALS];
     uint64_t cell_days, pairs, pair_days, frosty_pair_days, wetter_figures, more_runs_on, text_days, winters, winter_hits;
     uint32_t most_outflow;
     uint64_t foretold;
 };
 extern struct tally tally;
 
-/* Names the case that runs now: "case" or "text", and its seed. */
+/* Names the case that runs now: "case", "radiation", "text" or "winter", and its seed. */
 void set_current(const char *kind, uint64_t seed);
 
 /* Prints the difference with the case's seed and ends the program with 1. */
 __attribute__((format(printf, 1, 2), noreturn)) void fail(const char *format, ...);
 
+/* Counts what a call of the library returned, in the tally's counts of that call. */
 void count_refusal(uint64_t *counts, uint64_t returned);
 
 /* The counts of a whole run, in print. */
@@ -123,6 +125,15 @@ bool aim_edge(const struct grid_case *g, struct state_case *s, struct recharge_d
 
 void report_reasons(void);
 void reasons_often(uint64_t cases);
+
+/* ---------------------------------------------------------------- estimates from radiation: fuzz_radiation.c */
+
+/* Asks all that have M-103's estimates of some readings, and holds them to limits and units that are worked
+ * out by bits and integers, to the last bit, and a station's readings to exact numbers as well. */
+void run_radiation(uint64_t seed);
+
+void report_radiation(void);
+void radiation_often(uint64_t cases);
 
 /* ---------------------------------------------------------------- pairs of runs: fuzz_pairs.c */
 

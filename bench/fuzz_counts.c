@@ -33,14 +33,48 @@ void fail(const char *format, ...)
     exit(1);
 }
 
+/* An estimate from radiation has 13 alone, every other call of the library 1 to 10. */
+static bool exists(const uint64_t *counts, uint64_t number)
+{
+    const bool estimate = counts == tally.turc || counts == tally.jensen_haise;
+
+    return number == 0 || (estimate ? number == 13 : number <= 10);
+}
+
 void count_refusal(uint64_t *counts, uint64_t returned)
 {
     uint64_t number = returned >> 32, place = returned & UINT32_MAX;
 
-    if (number >= REFUSALS || place > BALANCE_MAX_CELLS)
+    if (!exists(counts, number) || place > BALANCE_MAX_CELLS)
         fail("a refusal that does not exist: %" PRIu64 " at %" PRIu64, number, place);
     counts[number]++;
     places[number][place] = 1;
+}
+
+static void report_refusals(void)
+{
+    const struct {
+        const char *name;
+        const uint64_t *counts;
+    } columns[] = {{"check", tally.check}, {"fresh", tally.fresh}, {"day", tally.day},   {"why", tally.why},
+                   {"text", tally.text},   {"turc", tally.turc},   {"jensen", tally.jensen_haise}};
+    enum { COLUMNS = sizeof columns / sizeof columns[0] };
+
+    printf("\n\n%-8s", "refusal");
+    for (int c = 0; c < COLUMNS; c++)
+        printf(" %10s", columns[c].name);
+    printf(" %10s\n", "places");
+    for (int i = 0; i < REFUSALS; i++) {
+        if (i == 12) /* no call has it */
+            continue;
+        printf("%-8d", i);
+        for (int c = 0; c < COLUMNS; c++)
+            printf(" %10" PRIu64, columns[c].counts[i]);
+        uint64_t different = 0;
+        for (int k = 0; k <= BALANCE_MAX_CELLS; k++)
+            different += places[i][k];
+        printf(" %10" PRIu64 "%s\n", different, i == 0 ? "  (0: accepted; places are the library's)" : "");
+    }
 }
 
 void report(uint64_t cases, uint64_t text_cases, uint64_t seed, double case_time, double text_time)
@@ -52,16 +86,7 @@ void report(uint64_t cases, uint64_t text_cases, uint64_t seed, double case_time
     printf("\n%" PRIu64 " texts in %.1f s, text functions:", text_cases, text_time);
     for (size_t x = 0; x < texts_count; x++)
         printf(" %s", texts[x].name);
-    printf("\n\n%-8s %10s %10s %10s %10s %10s %10s\n", "refusal", "check", "fresh", "day", "why", "text",
-           "places");
-    for (int i = 0; i < REFUSALS; i++) {
-        uint64_t different = 0;
-        for (int k = 0; k <= BALANCE_MAX_CELLS; k++)
-            different += places[i][k];
-        printf("%-8d %10" PRIu64 " %10" PRIu64 " %10" PRIu64 " %10" PRIu64 " %10" PRIu64 " %10" PRIu64 "%s\n",
-               i, tally.check[i], tally.fresh[i], tally.day[i], tally.why[i], tally.text[i], different,
-               i == 0 ? "  (0: accepted; places are the library's)" : "");
-    }
+    report_refusals();
     printf("\nreturns that were foretold and so: %" PRIu64 "\n", tally.foretold);
     printf("cells of accepted days held against the account: %" PRIu64 "\n", tally.cell_days);
     printf("largest outflow seen: %" PRIu32 "\n", tally.most_outflow);
@@ -72,6 +97,7 @@ void report(uint64_t cases, uint64_t text_cases, uint64_t seed, double case_time
     report_melt();
     report_frost();
     report_reasons();
+    report_radiation();
     printf("texts of winters besides: %" PRIu64 ", with %" PRIu64 " days whose frost index is a setpoint or one beside it\n",
            tally.winters, tally.winter_hits);
     printf("day lines of texts: %" PRIu64 "\n", tally.text_days);

@@ -1,5 +1,5 @@
-/* The single rules of the plain C (plain_rules.c), for programs that check figures against them.
- * All of them expect arguments within the paper's limits. */
+/* The single rules of the plain C (plain_rules.c, plain_radiation.c), for programs that check figures
+ * against them. All of them expect arguments within the paper's limits. */
 #ifndef PLAIN_H
 #define PLAIN_H
 
@@ -20,5 +20,12 @@ int64_t plain_curve_number(int64_t table_number, enum plain_condition condition)
 int64_t plain_runoff(int64_t c, int64_t w);                                       /* rule 6 */
 int64_t plain_retention(int64_t k);                                               /* F of rule 8 */
 int64_t plain_loss(int64_t soil, int64_t capacity, int64_t d);                    /* rule 8 */
+
+/* M-103: T in degrees Celsius, R in cal/cm2 a day and H in percent give millimetres, and those units,
+ * of which the estimate is the greatest whole number not above. */
+double plain_turc_millimetres(double t, double r, double h);
+double plain_jensen_haise_line(double t, double r); /* which is below 0 on a cold day */
+double plain_jensen_haise_millimetres(double t, double r);
+double plain_units(double millimetres);
 
 #endif

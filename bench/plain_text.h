@@ -1,5 +1,5 @@
-/* What the texts of the plain C share, `balance`'s (plain_text.c) and `why`'s (plain_why_text.c): the
- * output, and a text taken up. */
+/* What the texts of the plain C share, `balance`'s (plain_text.c), `why`'s (plain_why_text.c) and
+ * `potential`'s (plain_potential.c): the output, a word that is a number, and a text taken up. */
 #ifndef PLAIN_TEXT_H
 #define PLAIN_TEXT_H
 
@@ -44,7 +44,7 @@ static inline size_t put_end(struct output *o, size_t days)
     return o->used;
 }
 
-/* The last line: `refused` number `at` place, of a refusal as the calls return it. */
+/* A line, of `balance` and `why` the last: `refused` number `at` place, of a refusal as the calls return it. */
 static inline size_t put_refused(struct output *o, uint64_t refusal)
 {
     put_word(o, "refused ");

@@ -18,7 +18,7 @@ headers=$(LC_ALL=C ${CC:-cc} -E -v -x c /dev/null 2>&1 >/dev/null | sed -n '/^#i
 
 for file in $PLAIN plain_text fast fast_text table $CASES $FUZZ $FIGURES; do
     # shellcheck disable=SC2086
-    "$tools/bin/clang" --target=$target -nostdinc $headers -std=c11 -O2 -DTHIRD=recharge -DTHIRD_TEXT=recharge -c $file.c -o $made/$file.o
+    "$tools/bin/clang" --target=$target -nostdinc $headers $C11 -O2 -DTHIRD=recharge -DTHIRD_TEXT=recharge -c $file.c -o $made/$file.o
 done
 linked() { # PROGRAM NAME..: the program of these files and the implementations
     program=$1

@@ -11,10 +11,11 @@ mkdir -p build
 CC=${CC:-cc}
 ./native.sh clib build/libclib.a
 for file in fast fast_text; do
-    $CC -std=c11 -O3 -c $file.c -o build/$file.o
+    # shellcheck disable=SC2086
+    $CC $C11 -O3 -c $file.c -o build/$file.o
 done
 # shellcheck disable=SC2046,SC2086
-$CC -std=gnu11 -Wall -Wextra -Wconversion -Wshadow -O2 -DTHIRD=recharge -DTHIRD_TEXT=recharge $(printf '%s.c ' $SPEED) build/fast.o build/fast_text.o \
+$CC $WARN -std=gnu11 -O2 -DTHIRD=recharge -DTHIRD_TEXT=recharge $(printf '%s.c ' $SPEED) build/fast.o build/fast_text.o \
     build/libclib.a -o build/speed
 uname -m
 sed -n 's/^model name[^:]*: //p' /proc/cpuinfo | sed 1q

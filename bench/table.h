@@ -11,6 +11,8 @@ struct implementation {
     balance_fresh *fresh;
     balance_day *day;
     balance_why *why; /* NULL of one that does not say */
+    balance_turc *turc; /* NULL of one that has no estimates from radiation */
+    balance_jensen_haise *jensen_haise; /* likewise */
 };
 
 struct text_implementation {

@@ -7,7 +7,7 @@ mkdir -p $made
 # Compiles bench/NAME.c, and what else it needs, with the plain C's rules as build/NAME.
 plain() { # NAME [NAME..]
     # shellcheck disable=SC2046,SC2086
-    ${CC:-cc} -std=c11 -Wall -Wextra -Wconversion -Wshadow -O2 $(printf 'bench/%s.c ' "$@" $PLAIN) -o "$made/$1"
+    ${CC:-cc} $WARN -O2 $(printf 'bench/%s.c ' "$@" $PLAIN) -o "$made/$1"
 }
 
 # Puts build/NAME.md between each <!-- made: NAME --> of the document and the <!-- end --> after it, or holds what stands there to it. Each NAME

@@ -65,7 +65,7 @@ random() {
     rm -rf $made/texts
     mkdir $made/texts
     # shellcheck disable=SC2046,SC2086
-    ${CC:-cc} -std=c11 -O1 $(printf 'bench/%s.c ' $FUZZ $CASES $PLAIN fast fast_text table) -o $made/fuzz_texts
+    ${CC:-cc} $C11 -O1 $(printf 'bench/%s.c ' $FUZZ $CASES $PLAIN fast fast_text table) -o $made/fuzz_texts
     $made/fuzz_texts vectors $made/texts "$texts" "$seed"
     number=0
     for text in "$made"/texts/*.in; do
