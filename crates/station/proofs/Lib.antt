@@ -1,0 +1,3 @@
+pub mod ExampleLaws
+pub mod LineLaws
+pub mod AnswerLaws
