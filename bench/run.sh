@@ -10,44 +10,9 @@ set -eu
 cd "$(dirname "$0")/.."
 LC_ALL=C # the system's words in English
 export LC_ALL
-. bench/tables.sh
-. tools/loader.sh
+. bench/attempts.sh
 PLAIN="$PLAIN plain_text"
 mode=${1:-check}
-tried=0
-
-wrong() { # WORDS
-    echo "bench/run.sh: wrong: $1"
-    exit 1
-}
-
-# Runs a command: its status, $made/got.out and $made/got.said are what came of it.
-attempt() { # COMMAND..
-    status=0
-    "$@" > $made/got.out 2> $made/got.said || status=$?
-    tried=$((tried + 1))
-}
-
-# Holds the last attempt to its status, its standard output, and what it says on standard error: a file for each, or the word for it.
-expect() { # WHAT STATUS OUT nothing|something|SAID
-    [ "$status" -eq "$2" ] || wrong "$1: status $status, not $2"
-    cmp $made/got.out "$3" || wrong "$1: standard output is not as it should be"
-    case $4 in
-    nothing) [ ! -s $made/got.said ] || wrong "$1: standard error has: $(cat $made/got.said)" ;;
-    something) [ -s $made/got.said ] || wrong "$1: standard error says nothing" ;;
-    *) diff "$4" $made/got.said || wrong "$1: standard error is not as it should be" ;;
-    esac
-}
-
-said() { # WHAT PATTERN: standard error has a line like this
-    grep -q "$2" $made/got.said || wrong "$1: no line on standard error is like '$2': $(cat $made/got.said)"
-}
-
-# The same command with a full disk, or nothing, behind its output or standard error.
-full_disk() { "$@" > /dev/full; }
-closed() { "$@" >&-; }
-said_to_full_disk() { "$@" 2> /dev/full; }
-said_to_closed() { "$@" 2>&-; }
 
 # ---------------------------------------------------------------- accepted
 
@@ -90,13 +55,7 @@ make_texts() {
 explained() {
     # shellcheck disable=SC2046 # refused NUMBER at PLACE
     set -- "$1" "$2" $(($(wc -l < "$3") - 1)) $(tail -n 1 "$3")
-    # shellcheck disable=SC2086 # busybox awk
-    od -An -v -tu1 < "$2" | $1 -v days="$3" -v number="$5" -v place="$7" -f tools/numbers.awk -f tools/explain.awk
-}
-
-awks() { # the awks that this machine has
-    for awk in mawk gawk original-awk; do if command -v $awk > /dev/null; then echo $awk; fi; done
-    if command -v busybox > /dev/null; then echo busybox awk; fi
+    explain_text "$1" "$5" "$7" "$3" '' < "$2"
 }
 
 refused() {

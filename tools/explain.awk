@@ -1,13 +1,12 @@
-# Explains a refusal of the program `balance`, or of `why`, to a person:
+# Explains a refusal of the program `balance`, or of `why`, to a person, beside tools/words.awk, tools/limits.awk and tools/numbers.awk, which read
+# the text; explain_text of tools/explain.sh runs them. Handed over as variables: number and place, those of the last line, `refused NUMBER at PLACE`; days, how
+# many the program accepted before it; asked, the cell that `why` was asked about, or nothing.
 #
-#     od -An -v -tu1 < TEXT | awk -v number=N -v place=P -v days=D [-v asked=CELL] -f tools/numbers.awk -f tools/explain.awk
-#
-# TEXT is what the program read, `refused N at P` its last line, D the days that it accepted before, CELL the cell that `why` was asked
-# about. The refusal is the program's, and no proof speaks of this file: it repeats the limits of README's input table, to say which of
-# them was passed, and where. Lines, columns, rows, and the ordinals of covers and days count from 1, cells from 0 as in the refusal.
+# The refusal is the program's, and no proof speaks of this file: it repeats the limits of README's input table, to say which of them was
+# passed, and where. Lines, columns, rows, and the ordinals of covers and days count from 1, cells from 0 as in the refusal.
 
 BEGIN {
-    MOST_CELLS = 4096; MOST_COVERS = 64; MOST_CODE = 255; MOST_SNOW = 10000000; NO_LIMIT = 999999999; FREEZING = 320
+    MOST_CELLS = 4096; MOST_COVERS = 64; MOST_CODE = 255; MOST_SNOW = 10000000; FREEZING = 320
     HEADER = 5; COVER = 16; CELL = 4; DAY = 7 # how many numbers each has
     CODE = 0; CURVE = 2; MOST_RECHARGE = 6; GROWING = 10; DORMANT = 11; ROOTS = 12 # of a cover's numbers, from 0
     DIRECTION = 0; CELL_COVER = 1; GROUP = 2; WATER = 3 # of a cell's
@@ -33,13 +32,6 @@ END {
 }
 
 # ---------------------------------------------------------------- the fields
-
-function field(block, part, name, low, high, unit) {
-    called[block, part] = name
-    least[block, part] = low
-    most[block, part] = high
-    measured[block, part] = unit
-}
 
 function field_by_group(part, name, low, high, unit,    group) {
     for (group = 0; group < 4; group++)
@@ -76,12 +68,6 @@ function name_day_fields(    depth, tenths) {
     field("day", MEAN, "the mean temperature", -1000, 1500, tenths)
     field("day", MAXIMUM, "the maximum temperature", -1000, 1500, tenths)
     field("day", POTENTIAL, "the potential evapotranspiration", 0, 20000, depth)
-}
-
-function limits(block, part,    low, high, unit) {
-    low = least[block, part]; high = most[block, part]; unit = measured[block, part]
-    if (high == NO_LIMIT) return low " or more"
-    return commas(low) (high == low + 1 ? " or " : " to ") commas(high) (unit == "" ? "" : ", in " unit)
 }
 
 # ---------------------------------------------------------------- where a number stands
@@ -128,36 +114,20 @@ function ordinal(n) {
     return n (n % 10 == 1 ? "st" : n % 10 == 2 ? "nd" : n % 10 == 3 ? "rd" : "th")
 }
 
-function commas(n,    text, end) {
-    text = (n < 0 ? -n : n) ""
-    while (length(text) > 3) {
-        end = "," substr(text, length(text) - 2) end
-        text = substr(text, 1, length(text) - 3)
-    }
-    return (n < 0 ? "-" : "") text end
-}
-
-function plural(n, word) { return n " " word (n == 1 ? "" : "s") }
-
 function capital(text) { return toupper(substr(text, 1, 1)) substr(text, 2) }
 
 # ---------------------------------------------------------------- what is outside
 
-function outside(i, block, part) { return given[i] < least[block, part] || given[i] > most[block, part] }
-
-function say_value(i, block, part, wanted) {
-    print at[i] ": " called[block, part] " is " given[i] "; " wanted "."
-    if (given[i] ~ /^-99+$/) marks++
-}
+function say_value(i, block, part, wanted) { print at[i] ": " told(given[i], block, part, wanted) }
 
 # Says which of a block's numbers, from its number `part` on, are outside their limits; number i of the text is the block's first.
 function say_outside(i, block, part, size) {
-    for (; part < size; part++) if (outside(i + part, block, part)) say_value(i + part, block, part, "it may be " limits(block, part))
+    for (; part < size; part++) if (outside(given[i + part], block, part)) say_value(i + part, block, part, "it may be " limits(block, part))
 }
 
 # What may lie behind it: a mark such as -9999, or numbers that stand in other fields than they were meant for.
 function say_causes() {
-    if (marks) print "There is no mark for a missing value: every number counts as it stands."
+    say_marks()
     if (laid_out() && (rows_of(COVER) != covers || rows_of(CELL) != cells)) {
         say_odd_line()
         say_rows()
@@ -192,7 +162,7 @@ function explain_length() {
 }
 
 function explain_word(    meant) {
-    print bad_at ": " bad_word " cannot be read as a number: " bad_why "."
+    print bad_at ": " bad_why
     meant = stands_for(count)
     print "It is number " (count + 1) " of the text" (meant == "" ? "" : ", " meant) "."
     if (bad > 1) print bad " words of the text cannot be read; this is the first."
@@ -312,7 +282,7 @@ function explain_covers(    i) {
     }
     i = HEADER + COVER * place
     print capital(cover_named(place)) " (entry " place ", counted from 0), is refused:"
-    if (place > 0 && !outside(i, "cover", CODE) && given[i] <= given[i - COVER])
+    if (place > 0 && !outside(given[i], "cover", CODE) && given[i] <= given[i - COVER])
         say_value(i, "cover", CODE, "codes must rise, and that of the cover before it is " given[i - COVER])
     say_outside(i, "cover", CODE, COVER)
     say_causes()
@@ -377,7 +347,7 @@ function explain_season() {
 
 # Says that a temperature is above the one that it may not pass, where each by itself is inside its limits.
 function say_fall(i, lower, higher) {
-    if (outside(i + lower, "day", lower) || outside(i + higher, "day", higher) || given[i + lower] <= given[i + higher]) return
+    if (outside(given[i + lower], "day", lower) || outside(given[i + higher], "day", higher) || given[i + lower] <= given[i + higher]) return
     say_value(i + lower, "day", lower, called["day", higher] " is " given[i + higher] " (" at[i + higher] "), and may not be below it")
 }
 
