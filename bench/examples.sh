@@ -1,6 +1,7 @@
 #!/bin/sh
 # The tables of examples/README.md, from the figures that the plain C has for every cell. Those on frozen ground have the year twice:
-# once as if the ground never froze, with setpoints that no index of that year reaches, and once with the program's own.
+# once as if the ground never froze, with setpoints that no index of that year reaches, and once with the program's own. Those on the year by
+# radiation come of the commands that the page has a person type.
 #
 #     bench/examples.sh          checks; writes nothing outside bench/build/
 #     bench/examples.sh write    writes the tables
@@ -88,5 +89,67 @@ END {
         }
 }' examples/year/year.txt $made/never.cells $made/frozen.cells > $made/kinds.md
 
-tables examples/README.md "${1:-check}" ridge march kinds
+# The commands that the page has after <!-- typed: radiation -->, as they stand there, in a folder of their own with the plain C as ./run.
+plain plain_balance plain_text
+plain plain_potential plain_text
+typed=$made/typed
+rm -rf $typed
+mkdir $typed
+ln -s "$PWD/examples" $typed/examples
+cat > $typed/run << 'END'
+#!/bin/sh
+case $1 in
+potential) ../plain_potential < "$2" ;;
+*) ../plain_balance < "$1" ;;
+esac
+END
+chmod +x $typed/run
+awk '/^```$/ && inside { exit } inside; /^<!-- typed: radiation -->$/ { marked = 1 } marked && /^```$/ { inside = 1 }' examples/README.md > $typed/commands
+[ -s $typed/commands ] || { echo 'examples/README.md has no commands to type on radiation'; exit 1; }
+(cd $typed && sh -eu commands) > $made/typed.said
+cmp $typed/turc.potential examples/year/potential.out
+
+# The year a fourth time, by Turc of what is left of the radiation after an albedo of 0.23.
+awk '{ $3 = int(77 * $3 / 100); print }' examples/year/readings.txt > $typed/net.readings
+$made/plain_potential < $typed/net.readings | paste -d ' ' $typed/year.days - | cat $typed/year.setup - > $typed/net.txt
+$made/plain_balance < $typed/net.txt > $typed/net.out
+
+# The year's totals over the land: what its days ask for, and then as examples/totals.sh has them.
+cp examples/year/year.txt examples/year/year.out $typed
+for by in year turc jensen net; do
+    awk 'NF == 7 { asked += $7 } END { printf "asked - %.2f\n", asked / 10000 }' $typed/$by.txt
+    examples/totals.sh $typed/$by.txt $typed/$by.out | sed 's/stored at the end/stored/'
+done | awk '
+$1 == "asked" { by++ }
+{ land[by, $1] = $3 }
+END {
+    print "| inches over the land | the year as it is, Thornthwaite-Mather | by Turc | by Jensen-Haise | by Turc, albedo taken off |\n|---|---|---|---|---|"
+    n = split("asked,potential evapotranspiration;evapotranspired,evapotranspired;recharged,recharged;gone,gone;stored,stored at the end", row, ";")
+    for (i = 1; i <= n; i++) {
+        split(row[i], word, ",")
+        print "| " word[2] " | " land[1, word[1]] " | " land[2, word[1]] " | " land[3, word[1]] " | " land[4, word[1]] " |"
+    }
+}' > $made/radiation.md
+
+# By month: the means of the readings, what the year and its two variants ask for, and what recharges over the land.
+land=$(sed -n 's/.* cells, \([0-9]*\) of them land$/\1/p' $made/typed.said | head -n 1)
+awk -v land="$land" '
+/^#/ { next }
+FILENAME ~ /months.txt$/ { days[++months] = $1; for (d = 1; d <= $1; d++) month[++serials] = months; next }
+FILENAME ~ /readings.txt$/ { warmth[month[FNR]] += $2; sun[month[FNR]] += $3; next }
+NF == 7 { asked[by, month[$1]] += $7; asked[by, "all"] += $7 }
+NF == 8 { recharged[by, month[$1]] += $5; recharged[by, "all"] += $5 }
+BEGIN { split("January February March April May June July August September October November December", name, " ") }
+function inches(m,    k, row) {
+    for (k = 1; k <= 3; k++) row = row sprintf(" %.2f |", asked[k, m] / 10000)
+    for (k = 1; k <= 3; k++) row = row sprintf(" %.2f |", recharged[k, m] / land / 10000)
+    return row
+}
+END {
+    print "| month | mean, °C | radiation | potential: Thornthwaite-Mather | Turc | Jensen-Haise | recharged: Thornthwaite-Mather | Turc | Jensen-Haise |\n|---|---|---|---|---|---|---|---|---|"
+    for (m = 1; m <= months; m++) printf "| %s | %.1f | %.0f |%s\n", name[m], warmth[m] / days[m] / 10, sun[m] / days[m], inches(m)
+    print "| the year | | |" inches("all")
+}' examples/year/months.txt examples/year/readings.txt by=1 $typed/year.txt $typed/year.out by=2 $typed/turc.txt $typed/turc.out by=3 $typed/jensen.txt $typed/jensen.out > $made/months.md
+
+tables examples/README.md "${1:-check}" ridge march kinds radiation months
 echo 'the tables of examples/README.md are as the plain C has them'

@@ -1,6 +1,7 @@
 #!/bin/sh
 # The library beside the outside tables. crates/figures/stdout has the library's figures (rt holds the program to it); bench/outside/ has the published
-# ones. This checks that the plain C has the same figures as the library, and that the tables in docs/VECTORS.md are those that come out.
+# ones. This checks that the plain C has the same figures as the library, and that the tables in docs/VECTORS.md are those that come out. The estimates
+# from radiation are the plain C's alone; bench/compare.sh holds the library to those.
 #
 #     bench/outside.sh          checks; writes nothing outside bench/build/
 #     bench/outside.sh write    writes crates/figures/stdout and the tables in docs/VECTORS.md
@@ -106,6 +107,51 @@ $1 != "frost" { next }
     printf "| %d | %d | %d | %.1f | %s | %s |\n", $2, mean / 10, $3, theirs, gap + 0 == 0 ? "0" : gap, counts
 }' $ours > $made/frost.md
 
+# Turc and Jensen-Haise beside the constants of document 000's appendix B, in whole units, both rounded down. Its radiation is in MJ/m2: a calorie is
+# 4.184 J, so a cal/cm2 is 0.04184 MJ/m2. Below freezing it has no potential evapotranspiration.
+plain plain_potential plain_text
+theirs='
+function turc(t, sn, h) { return 0.313 / 25.4 * (t / (t + 15)) * (sn + 2.1) * (h < 50 ? 1 + (50 - h) / 70 : 1) }
+function jensen_haise(t, sn) { return 0.41 / 25.4 * sn * (0.025 * t + 0.078) }
+function units(kind, t, sn, h) { return t < 0 ? 0 : int(10000 * (kind == 1 ? turc(t, sn, h) : jensen_haise(t, sn))) }'
+
+# Lines of the program potential, each with its answer: an estimate over means in degrees Celsius and over radiation in cal/cm2 a day.
+estimated() { # KIND MEANS RADIATIONS [HUMIDITY]
+    for mean in $2; do
+        for radiation in $3; do echo "$1 $((10 * mean)) $radiation${4:+ $4}"; done
+    done > $made/lines
+    $made/plain_potential < $made/lines | paste -d ' ' $made/lines -
+}
+
+# A row for each mean; and in NAME.row, where document 000 is the most above ours and the most below, in units.
+beside() { # NAME WORDS KIND MEANS [HUMIDITY]
+    estimated "$3" "$4" '100 300 500 700' ${5:+"$5"} | awk -v name="$2" -v row="$made/$1.row" "$signed$theirs"'
+    {
+        t = $2 / 10; ours = $NF; other = units($1, t, 0.04184 * $3, $4)
+        if (NR == 1) print "| mean, °C | R 100: ours | 000 | | R 300: ours | 000 | | R 500: ours | 000 | | R 700: ours | 000 | |\n|---|---|---|---|---|---|---|---|---|---|---|---|---|"
+        if (NR % 4 == 1) printf "| %d |", t
+        printf " %d | %d | %s |%s", ours, other, signed(ours, other), NR % 4 ? "" : "\n"
+        if (other - ours > above) { above = other - ours; at_above = place(t, $3, ours) }
+        if (ours - other > under) { under = ours - other; at_under = place(t, $3, ours) }
+    }
+    function place(t, r, ours) { return sprintf("%d °C, R %d, where ours is %d", t, r, ours) }
+    END { printf("| %s | %d | %s | %s | %s |\n", name, above, at_above, under ? under : "nowhere", at_under) > row }' > "$made/$1.md"
+}
+means='0 5 10 15 20 25 30 35'
+beside turc 'Turc, humidity 50 and more' 1 "$means" 50
+beside turcdry 'Turc, humidity 30' 1 "$means" 30
+beside jensenhaise Jensen-Haise 2 "-5 -2 $means"
+{
+    printf '| estimate | 000 above ours by at most | at | below ours by at most | at |\n|---|---|---|---|---|\n'
+    cat $made/turc.row $made/turcdry.row $made/jensenhaise.row
+} > $made/constants.md
+
+# What comes out of 20 °C and 500 cal/cm2 where document 000's radiation is read as MJ/m2, and as the mm of water that these evaporate by its
+# latent heat, 2.44722 MJ a kg.
+{ estimated 1 20 500 50; estimated 2 20 500; } | awk "$theirs"'
+BEGIN { mj = 0.04184 * 500; mm = mj / 2.44722; printf "| 20 °C, R 500 | ours | 000, Sn = %.2f MJ/m² | 000, Sn = %.2f mm |\n|---|---|---|---|\n", mj, mm }
+{ print "| " ($1 == 1 ? "Turc, humidity 50" : "Jensen-Haise") " | " $NF " | " units($1, 20, mj, 50) " | " units($1, 20, mm, 50) " |" }' > $made/sunlight.md
+
 awk -F'\t' '
 { split($4, w, " "); n = w[1] == "refused" ? w[2] : 0; count[n]++
   if (n && !((n, w[4]) in seen)) { seen[n, w[4]] = 1; places[n]++; list[n] = list[n] (places[n] > 12 ? "" : (places[n] > 1 ? ", " : "") w[4]) } }
@@ -115,5 +161,5 @@ END {
     print "| none (`end`) | " count[0] " | | |"
 }' docs/vectors.txt > $made/refusals.md
 
-tables docs/VECTORS.md "$mode" refusals spread curves gaps retention frost snow melt
+tables docs/VECTORS.md "$mode" refusals spread curves gaps retention frost snow melt sunlight constants turc turcdry jensenhaise
 echo 'the outside tables are as docs/VECTORS.md has them'
