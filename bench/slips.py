@@ -6,10 +6,9 @@
 Works on a copy of theory and paper in a temporary folder. A slip changes one place of crates/paper/specs: a number one up
 or one down, ltb for leb or leb for ltb, && for || or || for &&, + for - or - for +, also of integers; of binary64 lt for le
 or le for lt, ⊕ for ⊖, ⊗ for ⊘ and back; true for false or false for true. Every name that a slip can bring in is in scope in
-the copy, so that a slip is refused by a law and not for a name. Of all slips every EACH-th is
-tried (default 1; a hundred take some minutes), in the FILEs named (default all). Prints each slip that passes, with its file
-and line, and at the end their count. A slip that passes is either no change of meaning or one that no law sees. Needs python3
-and rt."""
+the copy, so that a slip is refused by a law and not for a name. Of all slips every EACH-th is tried (default 1; a hundred take
+some minutes), in the FILEs named (default all). Prints each slip that passes, with its file and line, and at the end their
+count. A slip that passes is either no change of meaning or one that no law sees. Needs python3 and rt."""
 import re, shutil, subprocess, sys, tempfile
 from pathlib import Path
 

@@ -1,6 +1,6 @@
 // Standard input for the programs, whole or not at all.
 ghost use mathlib.Core.Path.{_≡_};
-ghost use lib.ListN.{length};
+ghost use lib.ListN.{length, replicate};
 ghost use Rattle.intake.specs.Input.{Within};
 
 pub enum Input {
@@ -10,7 +10,7 @@ pub enum Input {
 
 // One byte more than the longest input, so that a longer one shows by its length.
 pub fn input_room() -> [u8; 65537]
-    ensures { λ r. ⌜ 65537 ≡ length r ⌝ }
+    ensures { λ r. ⌜ (r ≡ replicate 65537 0) × (65537 ≡ length r) ⌝ }
 {
     [0u8; 65537]
 }
