@@ -21,8 +21,7 @@ use Rattle.paper.proofs.RefusalLaws.{pass-single, fail-single}
 use Rattle.records.specs.Answers.{resultsAs}
 use Rattle.reasons.specs.Asked.{askedOf}
 use Rattle.reasons.proofs.WhyLaws.{five, zeros-each, why-refused, day-accepted}
-use Rattle.words.specs.Writing.{farthest}
-use Rattle.lines.specs.Writing.{Wrote}
+use Rattle.words.specs.Writing.{farthest, Wrote}
 use Rattle.lines.specs.declared.telling.Told.{Told}
 use Rattle.lines.specs.declared.telling.Told.the-variants.{More, Last}
 use Rattle.explained.specs.Lines.{figuresLine, mostFiguresLine}

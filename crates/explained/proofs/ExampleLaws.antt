@@ -1,7 +1,7 @@
 -- The worked examples hold: each is computed.
 use mathlib.Core.Path.{refl}
 use Rattle.words.specs.Digits.{digitsWithin, digits, bytes}
-use Rattle.explained.specs.Inches.{fourDigits, inches}
+use Rattle.words.specs.Inches.{fourDigits, inches}
 use Rattle.explained.specs.Lines.{say, reasonWords, secondWords, reasonLine, figuresLine, whyLines}
 use Rattle.explained.specs.Examples.{Examples}
 

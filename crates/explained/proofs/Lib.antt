@@ -1,4 +1,3 @@
-pub mod InchesLaws
 pub mod LineLaws
 pub mod TellingLaws
 pub mod DayLaws

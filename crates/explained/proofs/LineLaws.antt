@@ -5,11 +5,10 @@ use Prim.Native.Nat.{ℕ, _+_, _^_, _≤_, _<_}
 use native.Mathlib.Omega.{arith}
 use lib.ListN.{length}
 use Rattle.words.specs.Digits.{digits}
-use Rattle.words.specs.Writing.{farthest, Put}
+use Rattle.words.specs.Writing.{farthest, Put, Wrote}
 use Rattle.words.proofs.DigitLaws.{digits-short}
-use Rattle.lines.specs.Writing.{Wrote}
-use Rattle.lines.proofs.WritingLaws.{wrote-length, wrote-then}
-use Rattle.explained.specs.Inches.{inches}
+use Rattle.words.proofs.WritingLaws.{wrote-length, wrote-then}
+use Rattle.words.specs.Inches.{inches}
 use Rattle.explained.specs.Lines.{say}
 
 pub wrote-number : {at r : ℕ} {l l′ : List ℕ} (n : ℕ) → n < 2 ^ 64 → Put at (digits n) l l′ r → Wrote 20 at (digits n) l l′ r

@@ -4,15 +4,15 @@ use mathlib.Core.List.{List}
 use Prim.Native.Nat.{ℕ, _≤_}
 use native.Mathlib.Omega.{arith}
 use lib.ListN.{length}
-use Rattle.words.specs.Writing.{farthest}
+use Rattle.words.specs.Writing.{farthest, Wrote}
 use Rattle.paper.specs.CellDay.{Figures}
 use Rattle.paper.specs.Refusals.{Refusal}
 use Rattle.paper.specs.Reasons.{Reason, Explanation, because, byRefusal}
 use Rattle.lines.specs.Lines.{refusal}
-use Rattle.lines.specs.Writing.{mostRefusal, Wrote}
+use Rattle.lines.specs.Writing.{mostRefusal}
 use Rattle.lines.specs.declared.telling.Told.{Told}
 use Rattle.lines.specs.declared.telling.Told.the-variants.{More, Last}
-use Rattle.lines.proofs.WritingLaws.{wrote-then}
+use Rattle.words.proofs.WritingLaws.{wrote-then}
 use Rattle.explained.specs.Lines.{reasonLine, figuresLine, whyLines, mostReasonLine, mostFiguresLine, mostLines}
 use Rattle.explained.specs.Telling.{toldIn, reasonOrRefusal, TellsReason, Tells, Inside}
 use Rattle.explained.proofs.LineLaws.{wrote-within, wrote-inside}

@@ -3,7 +3,7 @@ use mathlib.Core.List.{_++_}
 use mathlib.Core.Path.{_≡_}
 use Rattle.words.specs.Digits.{bytes}
 use Rattle.paper.specs.Reasons.{because, allRecharged}
-use Rattle.explained.specs.Inches.{inches}
+use Rattle.words.specs.Inches.{inches}
 use Rattle.explained.specs.Lines.{whyLines}
 
 pub record Examples : Type 0 where

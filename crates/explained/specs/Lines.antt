@@ -18,7 +18,7 @@ use Rattle.paper.specs.Reasons.{
   because,
   byRefusal,
 }
-use Rattle.explained.specs.Inches.{inches}
+use Rattle.words.specs.Inches.{inches}
 
 -- a depth after some words, and what follows
 unfoldable pub say : List ℕ → ℕ → List ℕ → List ℕ
@@ -65,7 +65,10 @@ unfoldable pub whyLines : ℕ → Explanation → Figures → List ℕ
 whyLines serial (because reason a b) figures = reasonLine serial reason a b ++ figuresLine figures
 whyLines serial (byRefusal why) figures = refusal why
 
--- the most bytes of a reason's line besides its words, and of each line, with a serial and depths of 64 bits
+-- the most bytes of two depths of 64 bits, of a reason's line besides its words, and of each line, with a serial and depths of 64 bits
+abbrev pub mostTwo : ℕ
+mostTwo = 50
+
 abbrev pub mostSerial : ℕ
 mostSerial = 87
 

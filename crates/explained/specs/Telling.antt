@@ -9,7 +9,7 @@ use Rattle.paper.specs.Reasons.{Explanation, because, byRefusal, whyOf}
 use Rattle.paper.specs.Setup.{Setup}
 use Rattle.paper.specs.State.{State, Day}
 use Rattle.lines.specs.Lines.{refusal}
-use Rattle.lines.specs.Writing.{Wrote}
+use Rattle.words.specs.Writing.{Wrote}
 use Rattle.lines.specs.declared.telling.Told.{Told}
 use Rattle.lines.specs.declared.telling.Told.the-variants.{More, Last}
 use Rattle.explained.specs.Lines.{reasonLine, whyLines, mostReasonLine, mostLines}

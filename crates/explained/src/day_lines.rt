@@ -2,13 +2,13 @@
 ghost use mathlib.Core.List.{_++_};
 ghost use Prim.Native.Nat.{_+_};
 ghost use lib.ListN.{length};
-ghost use Rattle.lines.specs.Writing.{Wrote};
+ghost use Rattle.words.specs.Writing.{Wrote};
 ghost use Rattle.reasons.specs.Whys.{whyAs};
 ghost use Rattle.words.specs.Digits.{digits, bytes};
 ghost use Rattle.explained.specs.Lines.{say as saying, lineEnd, figuresLine, mostSerial, mostFiguresLine};
 ghost use Rattle.explained.specs.Telling.{figuresAs, TellsReason};
-use crate::inches::say;
-use crate::inches::say_two;
+use crate::saying::say;
+use crate::saying::say_two;
 use lines::Told;
 use lines::refusal;
 use reasons::Why;

@@ -1,7 +1,7 @@
 // A day explained (M-105): why a cell got its figures, and the figures, as two lines in inches.
 mod day_lines;
 mod explaining;
-mod inches;
+mod saying;
 
 pub use day_lines::MOST_LINES;
 pub use explaining::Explained;

@@ -7,7 +7,8 @@ use Rattle.paper.specs.Day.{Totals}
 use Rattle.paper.specs.Refusals.{Verdict, accepted, refused, Refusal}
 use Rattle.lines.specs.Lines.{dayLine, refusal}
 use Rattle.lines.specs.Telling.{lineOf, toldIn, Tells}
-use Rattle.lines.specs.Writing.{mostLine, mostRefusal, Wrote}
+use Rattle.words.specs.Writing.{Wrote}
+use Rattle.lines.specs.Writing.{mostLine, mostRefusal}
 use Rattle.lines.specs.declared.telling.Told.the-variants.{More, Last}
 
 -- a day's line, and its refusal, as they are told

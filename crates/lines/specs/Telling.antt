@@ -5,7 +5,8 @@ use Prim.Native.Nat.{ℕ}
 use Rattle.paper.specs.Day as paper
 use Rattle.paper.specs.Refusals.{Verdict, accepted, refused}
 use Rattle.lines.specs.Lines.{dayLine, refusal}
-use Rattle.lines.specs.Writing.{mostLine, Wrote}
+use Rattle.words.specs.Writing.{Wrote}
+use Rattle.lines.specs.Writing.{mostLine}
 use Rattle.lines.specs.declared.telling.Told.{Told}
 use Rattle.lines.specs.declared.telling.Told.the-variants.{More, Last}
 

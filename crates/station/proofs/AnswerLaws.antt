@@ -16,13 +16,12 @@ use Rattle.paper.proofs.RadiationLaws.{estimated-fitting, estimated-outside, ne
 use Rattle.words.specs.Digits.{digits, bytes}
 use Rattle.words.specs.Spans.{part, NextLine}
 use Rattle.words.specs.Words.{linesOf}
-use Rattle.words.specs.Writing.{farthest, Put}
+use Rattle.words.specs.Writing.{farthest, Put, Wrote}
 use Rattle.words.proofs.DigitLaws.{digits-below}
 use Rattle.words.proofs.WordLaws.{lines-few}
 use Rattle.words.proofs.WritingLaws.{put-none, put-then, put-as}
 use Rattle.lines.specs.Lines.{row, refusedLine}
 use Rattle.lines.specs.Reading.{mostBytes, reading, given}
-use Rattle.lines.specs.Writing.{Wrote}
 use Rattle.station.specs.Readings.{Line, estimate, malformed, lineIn}
 use Rattle.station.specs.Answers.{estimateLine, answerTo, answers, answered, mostAnswer, mostAnswers}
 

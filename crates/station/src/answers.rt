@@ -2,9 +2,8 @@
 ghost use Prim.Native.Nat.{_≤_};
 ghost use lib.ListN.{length};
 ghost use Rattle.words.specs.Words.{linesOf};
-ghost use Rattle.words.specs.Writing.{Put};
+ghost use Rattle.words.specs.Writing.{Put, Wrote};
 ghost use Rattle.lines.specs.Reading.{mostBytes};
-ghost use Rattle.lines.specs.Writing.{Wrote};
 ghost use Rattle.radiation.specs.Estimates.{potentialAs};
 ghost use Rattle.station.specs.Readings.{lineAs};
 ghost use Rattle.station.specs.Answers.{estimateLine, answerTo, answers, answered, mostAnswers};

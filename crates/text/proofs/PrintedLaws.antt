@@ -13,7 +13,7 @@ use Rattle.text.specs.Program.{runText, screen, screenText, numbersText,
 use Rattle.lines.specs.Reading.{mostBytes, given, codes}
 use Rattle.text.specs.Run.{mostText, Printed}
 use Rattle.text.specs.Taking.{takenIn, takenOf, TakenUp}
-use Rattle.lines.specs.Writing.{Wrote}
+use Rattle.words.specs.Writing.{Wrote}
 use Rattle.text.specs.declared.screening.Screened.{Screened}
 use Rattle.text.specs.declared.screening.Screened.the-variants as screened
 use Rattle.text.specs.declared.taking.Layout.{Layout}

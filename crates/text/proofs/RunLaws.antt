@@ -19,13 +19,13 @@ use Rattle.text.specs.Laying.{dayFrom}
 use Rattle.text.specs.Taking.{layoutIn}
 use Rattle.text.specs.Run.{mostText, Coded}
 use Rattle.lines.specs.Telling.{lineOf, toldIn, Tells}
-use Rattle.lines.specs.Writing.{mostLine, mostEnd, Wrote}
+use Rattle.words.specs.Writing.{Wrote}
+use Rattle.lines.specs.Writing.{mostLine, mostEnd}
 use Rattle.lines.specs.declared.telling.Told.{Told}
 use Rattle.lines.specs.declared.telling.Told.the-variants.{More, Last}
 use Rattle.text.specs.declared.taking.Layout.{Layout}
 use Rattle.text.proofs.OneDayLaws.{parts, Room, coded-day}
-use Rattle.words.proofs.WritingLaws.{sets-append}
-use Rattle.lines.proofs.WritingLaws.{wrote-length}
+use Rattle.words.proofs.WritingLaws.{sets-append, wrote-length}
 
 -- `rest`, written from `at` on, makes the whole text of the buffer
 pub record Onward (whole before now : List ℕ) (at : ℕ) (rest : List ℕ) : Type 0 where

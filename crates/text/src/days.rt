@@ -5,7 +5,7 @@ ghost use Rattle.records.specs.Grids.{setupAs};
 ghost use Rattle.records.specs.Past.{stateAs};
 ghost use Rattle.text.specs.Program.{dayCount, dayAt, noResults, daysText};
 ghost use Rattle.text.specs.Run.{DaysReady, mostText};
-ghost use Rattle.lines.specs.Writing.{Wrote};
+ghost use Rattle.words.specs.Writing.{Wrote};
 use crate::fields::day_in;
 use crate::taking::Layout;
 use lines::Told;

@@ -1,7 +1,7 @@
 // The program's text as one function of the input: it is taken up, then run.
 ghost use Rattle.text.specs.Program.{printed};
 ghost use Rattle.text.specs.Run.{Printed, mostText};
-ghost use Rattle.lines.specs.Writing.{Wrote};
+ghost use Rattle.words.specs.Writing.{Wrote};
 use crate::starting::started;
 use crate::taking::Taken;
 use crate::taking::take_up;

@@ -2,7 +2,7 @@
 ghost use Rattle.text.specs.Laying.{Laid};
 ghost use Rattle.text.specs.Program.{runText};
 ghost use Rattle.text.specs.Run.{Coded, Complete, Lent, mostText};
-ghost use Rattle.lines.specs.Writing.{Wrote};
+ghost use Rattle.words.specs.Writing.{Wrote};
 use crate::days::days;
 use crate::fields::FRONT_NUMBERS;
 use crate::fields::climate_in;

@@ -2,3 +2,4 @@ pub mod WordLaws
 pub mod NumberLaws
 pub mod DigitLaws
 pub mod WritingLaws
+pub mod InchesLaws

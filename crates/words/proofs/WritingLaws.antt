@@ -1,14 +1,15 @@
--- Bytes put one after another into a buffer are put together, also where the buffer ends between them: past its end nothing is written.
+-- Bytes put one after another into a buffer are put together, also where the buffer ends between them: past its end nothing is written. They are at most
+-- as many as the parts' bounds together.
 use mathlib.Core.Path.{_≡_, refl, sym, ap, _∙_}
 use mathlib.Core.List.{List, [], _∷_, _++_}
 use Prim.Native.Nat.{ℕ, suc, _+_, _≤_, _<_, min}
-use native.Mathlib.Nat.{add-zero, add-suc, suc-add}
+use native.Mathlib.Nat.{add-zero, add-suc, suc-add, le-refl}
 use native.Mathlib.Numerals.{add-one}
 use native.Mathlib.Omega.{arith}
 use lib.ListN.{length, getD, set, take, length-append}
 use lib.Seq.{sets, length-sets, set-out, take-suc, take-all}
 use Rattle.theory.proofs.Cases.{below-or-not}
-use Rattle.words.specs.Writing.{farthest, Put}
+use Rattle.words.specs.Writing.{farthest, Put, Wrote}
 
 pub sets-append : (xs ys l : List ℕ) (i : ℕ) → sets l i (xs ++ ys) ≡ sets (sets l i xs) (i + length xs) ys
 sets-append [] ys l i = rw (add-zero i) refl
@@ -62,3 +63,26 @@ put-next bytes i h more w v = rw (add-one i, take-suc bytes i 0 more) (put-then 
 
 pub put-all : {at r : ℕ} {l l′ : List ℕ} (bytes : List ℕ) (i : ℕ) → length bytes ≤ i → Put at (take i bytes) l l′ r → Put at bytes l l′ r
 put-all bytes i h w = put-as bytes w (take-all i bytes h)
+
+-- what is written of at most so many bytes
+pub wrote-length : {a at r : ℕ} {xs l l′ : List ℕ} → Wrote a at xs l l′ r → length l′ ≡ length l
+wrote-length w = put-length (w .put)
+
+-- the same bytes under another name, and their own bound
+pub wrote-as :
+    {a at r : ℕ} {xs l l′ : List ℕ} (b : ℕ) (ys : List ℕ) → Wrote a at xs l l′ r → xs ≡ ys → length ys ≤ b
+    → Wrote b at ys l l′ r
+wrote-as b ys w e h = record { put = put-as ys (w .put) e; short = h }
+
+pub wrote-whole : {a b at r : ℕ} {xs ys l l′ : List ℕ} → ys ≡ xs → a ≤ b → Wrote a at xs l l′ r → Wrote b at ys l l′ r
+wrote-whole {b = b} {ys = ys} e h w = wrote-as b ys w (sym e) (omega (arith, w .short, ap length e))
+
+pub wrote-bytes : {at r : ℕ} {xs l l′ : List ℕ} → Put at xs l l′ r → Wrote (length xs) at xs l l′ r
+wrote-bytes {xs = xs} p = record { put = p; short = le-refl (length xs) }
+
+-- one part after another, in a buffer as long as the machine's can be
+pub wrote-then :
+    {a b at mid r : ℕ} {xs ys l l₁ l₂ : List ℕ} → length l ≤ farthest → Wrote a at xs l l₁ mid → Wrote b mid ys l₁ l₂ r
+    → Wrote (a + b) at (xs ++ ys) l l₂ r
+wrote-then {xs = xs} {ys = ys} long w v =
+    record { put = put-then long (w .put) (v .put); short = omega (arith, w .short, v .short, length-append xs ys) }

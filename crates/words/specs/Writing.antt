@@ -1,7 +1,7 @@
 -- Bytes written into a lent buffer, as many as fit.
 use mathlib.Core.List.{List}
 use mathlib.Core.Path.{_≡_}
-use Prim.Native.Nat.{ℕ, _+_, min}
+use Prim.Native.Nat.{ℕ, _+_, _≤_, min}
 use lib.ListN.{length}
 use lib.Seq.{sets}
 
@@ -14,3 +14,8 @@ farthest = 18446744073709551615
 pub record Put (at : ℕ) (bytes before after : List ℕ) (next : ℕ) : Type 0 where
   pub buffer : after ≡ sets before at bytes
   pub end : next ≡ min (at + length bytes) farthest
+
+-- `bytes`, at most `most` of them, put into the buffer from `at` on
+pub record Wrote (most at : ℕ) (bytes before after : List ℕ) (next : ℕ) : Type 0 where
+  pub put : Put at bytes before after next
+  pub short : length bytes ≤ most

@@ -15,7 +15,7 @@ pub enum Meaning {
 
 const MOST_DIGITS: usize = 9;
 
-fn is_digit(b: u8) -> bool
+pub fn is_digit(b: u8) -> bool
     ensures { λ r. ⌜ r ≡ isDigit b ⌝ }
 {
     (b'0' <= b) & (b <= b'9')

@@ -2,7 +2,7 @@
 use native.Mathlib.Omega.{arith}
 use borrow.Author.Needs.{needs}
 use Rattle.words.specs.Digits.{bytes}
-use Rattle.lines.proofs.WritingLaws.{wrote-bytes}
+use Rattle.words.proofs.WritingLaws.{wrote-bytes}
 use Rattle.explained.specs.Lines.{figuresLine}
 use Rattle.explained.proofs.LineLaws.{say-then, two-then}
 use Rattle.explained.proofs.day_lines.figures_line.Statement.{statement}

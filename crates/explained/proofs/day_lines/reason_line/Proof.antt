@@ -2,7 +2,7 @@
 use native.Mathlib.Omega.{arith}
 use borrow.Author.Needs.{needs}
 use Rattle.words.specs.Digits.{bytes}
-use Rattle.lines.proofs.WritingLaws.{wrote-bytes}
+use Rattle.words.proofs.WritingLaws.{wrote-bytes}
 use Rattle.explained.proofs.LineLaws.{wrote-number, wrote-within, part-then, two-then}
 use Rattle.explained.proofs.day_lines.reason_line.Statement.{statement}
 use Rattle.explained.proofs.day_lines.reason_line.Tie as tie

@@ -5,7 +5,8 @@ use Rattle.words.specs.Digits.{bytes}
 use Rattle.lines.specs.Lines.{endLine}
 use Rattle.lines.proofs.writing.ended.Statement.{statement}
 use Rattle.lines.proofs.writing.ended.Tie as tie
-use Rattle.lines.proofs.WritingLaws.{wrote-bytes, wrote-item, wrote-then, row-last}
+use Rattle.words.proofs.WritingLaws.{wrote-bytes, wrote-then}
+use Rattle.lines.proofs.WritingLaws.{wrote-item, row-last}
 
 returns : tie.Need-returns
 unfolding endLine bytes

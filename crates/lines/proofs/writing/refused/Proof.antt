@@ -5,7 +5,8 @@ use Rattle.words.specs.Digits.{bytes}
 use Rattle.lines.specs.Lines.{refusedLine}
 use Rattle.lines.proofs.writing.refused.Statement.{statement}
 use Rattle.lines.proofs.writing.refused.Tie as tie
-use Rattle.lines.proofs.WritingLaws.{wrote-bytes, wrote-item, wrote-then, item-then, row-last}
+use Rattle.words.proofs.WritingLaws.{wrote-bytes, wrote-then}
+use Rattle.lines.proofs.WritingLaws.{wrote-item, item-then, row-last}
 
 returns : tie.Need-returns
 unfolding refusedLine bytes

@@ -1,7 +1,7 @@
 -- `answers::potential_text` meets its contract: a text that is too long is refused, any other is answered line by line.
 use native.Mathlib.Omega.{arith}
 use borrow.Author.Needs.{needs}
-use Rattle.lines.proofs.WritingLaws.{wrote-whole}
+use Rattle.words.proofs.WritingLaws.{wrote-whole}
 use Rattle.station.proofs.AnswerLaws.{text-long, text-answered}
 use Rattle.station.proofs.answers.potential_text.Statement.{statement}
 use Rattle.station.proofs.answers.potential_text.Tie as tie

@@ -5,7 +5,7 @@ use Rattle.text.proofs.program.text.Tie as tie
 use Prim.Native.Nat.{ℕ}
 use native.Mathlib.Omega.{arith}
 use lib.ListN.{length-replicate}
-use Rattle.lines.proofs.WritingLaws.{wrote-whole}
+use Rattle.words.proofs.WritingLaws.{wrote-whole}
 use Rattle.text.proofs.PrintedLaws.{text-refused, text-runs}
 use Rattle.text.proofs.TakingLaws.{ReadyText, ready-text}
 

@@ -7,7 +7,7 @@ use native.Mathlib.Omega.{arith}
 use Rattle.paper.specs.State.{State}
 use Rattle.records.specs.Past.{stateAs}
 use Rattle.records.specs.Verdicts.{verdictAs}
-use Rattle.lines.proofs.WritingLaws.{wrote-whole}
+use Rattle.words.proofs.WritingLaws.{wrote-whole}
 use Rattle.text.proofs.StartLaws.{days-ready, start-refused, start-runs}
 
 -- the places that the needs name: from the stores after the fresh state back to it, the climate read and the start

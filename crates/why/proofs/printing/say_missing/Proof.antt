@@ -5,7 +5,8 @@ use native.Mathlib.Omega.{arith}
 use borrow.Author.Needs.{needs}
 use lib.ListN.{length}
 use lib.Seq.{length-take-le}
-use Rattle.lines.proofs.WritingLaws.{wrote-bytes, wrote-item}
+use Rattle.words.proofs.WritingLaws.{wrote-bytes}
+use Rattle.lines.proofs.WritingLaws.{wrote-item}
 use Rattle.explained.proofs.LineLaws.{part-then, wrote-inside}
 use Rattle.why.proofs.printing.say_missing.Statement.{statement}
 use Rattle.why.proofs.printing.say_missing.Tie as tie

@@ -6,7 +6,7 @@ use borrow.Author.Needs.{needs}
 use borrow.Author.Tests.{ltb-true}
 use lib.ListN.{length}
 use Rattle.theory.proofs.Cases.{and-left}
-use Rattle.lines.proofs.WritingLaws.{wrote-length}
+use Rattle.words.proofs.WritingLaws.{wrote-length}
 use Rattle.explained.proofs.TellingLaws.{tells-inside}
 use Rattle.why.proofs.run.days.Statement.{statement}
 use Rattle.why.proofs.run.days.Tie as tie

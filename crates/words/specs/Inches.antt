@@ -11,9 +11,6 @@ fourDigits n = (48 + n / 1000 % 10) ∷ (48 + n / 100 % 10) ∷ (48 + n / 10 % 1
 unfoldable pub inches : ℕ → List ℕ
 inches units = digits (units / 10000) ++ 46 ∷ fourDigits (units % 10000)
 
--- the most bytes of a depth of 64 bits, and of two
+-- the most bytes of a depth of 64 bits
 abbrev pub mostInches : ℕ
 mostInches = 25
-
-abbrev pub mostTwo : ℕ
-mostTwo = 50

@@ -1,9 +1,9 @@
--- `inches::say` meets its contract: the words, then the depth.
+-- `saying::say` meets its contract: the words, then the depth.
 use native.Mathlib.Omega.{arith}
 use borrow.Author.Needs.{needs}
-use Rattle.lines.proofs.WritingLaws.{wrote-bytes, wrote-then}
-use Rattle.explained.proofs.inches.say.Statement.{statement}
-use Rattle.explained.proofs.inches.say.Tie as tie
+use Rattle.words.proofs.WritingLaws.{wrote-bytes, wrote-then}
+use Rattle.explained.proofs.saying.say.Statement.{statement}
+use Rattle.explained.proofs.saying.say.Tie as tie
 
 returns : tie.Need-returns
 returns c = let depth = c .before .before in

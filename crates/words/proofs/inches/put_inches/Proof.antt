@@ -1,9 +1,9 @@
 -- `inches::put_inches` meets its contract: the whole inches and the point, then four decimals.
 use native.Mathlib.Omega.{arith}
 use borrow.Author.Needs.{needs}
-use Rattle.explained.proofs.InchesLaws.{inches-put}
-use Rattle.explained.proofs.inches.put_inches.Statement.{statement}
-use Rattle.explained.proofs.inches.put_inches.Tie as tie
+use Rattle.words.proofs.InchesLaws.{inches-put}
+use Rattle.words.proofs.inches.put_inches.Statement.{statement}
+use Rattle.words.proofs.inches.put_inches.Tie as tie
 
 returns : tie.Need-returns
 returns c = let decimals = c .before .before in

@@ -1,9 +1,9 @@
 -- `inches::put_four` meets its contract: four digits one after another.
 use native.Mathlib.Omega.{arith}
 use borrow.Author.Needs.{needs}
-use Rattle.explained.proofs.InchesLaws.{four-put}
-use Rattle.explained.proofs.inches.put_four.Statement.{statement}
-use Rattle.explained.proofs.inches.put_four.Tie as tie
+use Rattle.words.proofs.InchesLaws.{four-put}
+use Rattle.words.proofs.inches.put_four.Statement.{statement}
+use Rattle.words.proofs.inches.put_four.Tie as tie
 
 returns : tie.Need-returns
 returns c = let fourth = c .before .before in

@@ -8,13 +8,12 @@ use native.Mathlib.Omega.{arith}
 use lib.ListN.{length, length-append}
 use lib.Seq.{append-snoc}
 use Rattle.theory.proofs.Cases.{below-or-not}
 use Rattle.words.specs.Digits.{digits}
 use Rattle.words.specs.Numbers.{spelled}
-use Rattle.words.specs.Writing.{farthest, Put}
+use Rattle.words.specs.Writing.{farthest, Put, Wrote}
 use Rattle.words.proofs.DigitLaws.{digits-one, digits-more, digits-short}
 use Rattle.words.proofs.WritingLaws.{put-then, put-as}
-use Rattle.lines.specs.Writing.{Wrote}
-use Rattle.explained.specs.Inches.{fourDigits, inches, mostInches}
+use Rattle.words.specs.Inches.{fourDigits, inches, mostInches}
 
 spelled-append : (xs ys : List ℕ) (m : ℕ) → spelled m (xs ++ ys) ≡ spelled (spelled m xs) ys
 unfolding spelled

@@ -1,9 +1,9 @@
--- `inches::say_two` meets its contract: one after the other.
+-- `saying::say_two` meets its contract: one after the other.
 use native.Mathlib.Omega.{arith}
 use borrow.Author.Needs.{needs}
 use Rattle.explained.proofs.LineLaws.{wrote-within, say-then}
-use Rattle.explained.proofs.inches.say_two.Statement.{statement}
-use Rattle.explained.proofs.inches.say_two.Tie as tie
+use Rattle.explained.proofs.saying.say_two.Statement.{statement}
+use Rattle.explained.proofs.saying.say_two.Tie as tie
 
 returns : tie.Need-returns
 returns c = let second = c .before .before in
