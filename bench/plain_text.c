@@ -5,32 +5,6 @@
 
 /* ---------------------------------------------------------------- input */
 
-static bool is_blank(unsigned char byte)
-{
-    return byte == ' ' || byte == '\n';
-}
-
-/* Nine digits fit 32 bits. */
-bool plain_number(const unsigned char *token, size_t length, int32_t *number)
-{
-    bool minus = length > 0 && token[0] == '-';
-    const unsigned char *digits = token + (minus ? 1 : 0);
-    size_t count = length - (minus ? 1 : 0);
-    int32_t value = 0;
-
-    if (count < 1 || count > 9)
-        return false;
-    for (size_t i = 0; i < count; i++) {
-        if (digits[i] < '0' || digits[i] > '9')
-            return false;
-        value = 10 * value + (digits[i] - '0');
-    }
-    if (digits[0] == '0' && (count > 1 || minus))
-        return false;
-    *number = minus ? -value : value;
-    return true;
-}
-
 struct numbers {
     int32_t number[TEXT_LONGEST / 2]; /* each takes a digit and, but for the last, a blank */
     size_t count;
@@ -39,23 +13,15 @@ struct numbers {
 /* Reads all numbers; false at the first bad token, with the count of numbers before it. */
 static bool read_numbers(const unsigned char *in, size_t n, struct numbers *all)
 {
-    size_t at = 0;
-
     all->count = 0;
-    for (;;) {
-        while (at < n && is_blank(in[at]))
-            at++;
-        if (at == n)
-            return true;
-        size_t start = at;
-        while (at < n && !is_blank(in[at]))
-            at++;
+    for (size_t at = 0, start; next_word(in, n, &at, &start);) {
         int32_t number;
         if (!plain_number(in + start, at - start, &number))
             return false;
         assert(all->count < TEXT_LONGEST / 2);
         all->number[all->count++] = number;
     }
+    return true;
 }
 
 /* A number on its way to a field that takes none below 0. A negative number becomes one above

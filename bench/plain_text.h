@@ -1,5 +1,5 @@
-/* What the texts of the plain C share, `balance`'s (plain_text.c), `why`'s (plain_why_text.c) and
- * `potential`'s (plain_potential.c): the output, a word that is a number, and a text taken up. */
+/* What the texts of the plain C share, `balance`'s (plain_text.c), `why`'s (plain_why_text.c), `potential`'s
+ * (plain_potential.c) and Arc grids (plain_grids.c): the output, a word that is a number, and a text taken up. */
 #ifndef PLAIN_TEXT_H
 #define PLAIN_TEXT_H
 
@@ -55,10 +55,52 @@ static inline size_t put_refused(struct output *o, uint64_t refusal)
     return o->used;
 }
 
-/* ---------------------------------------------------------------- a text taken up: plain_text.c */
+/* ---------------------------------------------------------------- words */
 
-/* Is the token a number of 1 to 9 digits, a minus allowed, no leading zeros, no minus zero? */
-bool plain_number(const unsigned char *token, size_t length, int32_t *number);
+/* What parts words. */
+static inline bool is_blank(unsigned char byte)
+{
+    return byte == ' ' || byte == '\n';
+}
+
+/* The next of the n bytes' words from *at on starts at *start, and *at is then past its end; false where none is left. */
+static inline bool next_word(const unsigned char *text, size_t n, size_t *at, size_t *start)
+{
+    while (*at < n && is_blank(text[*at]))
+        ++*at;
+    *start = *at;
+    while (*at < n && !is_blank(text[*at]))
+        ++*at;
+    return *at > *start;
+}
+
+static inline bool is_digit(unsigned char byte)
+{
+    return '0' <= byte && byte <= '9';
+}
+
+/* Is the token a number of 1 to 9 digits, a minus allowed, no leading zeros, no minus zero? Nine digits fit 32 bits. */
+static inline bool plain_number(const unsigned char *token, size_t length, int32_t *number)
+{
+    bool minus = length > 0 && token[0] == '-';
+    const unsigned char *digits = token + (minus ? 1 : 0);
+    size_t count = length - (minus ? 1 : 0);
+    int32_t value = 0;
+
+    if (count < 1 || count > 9)
+        return false;
+    for (size_t i = 0; i < count; i++) {
+        if (!is_digit(digits[i]))
+            return false;
+        value = 10 * value + (digits[i] - '0');
+    }
+    if (digits[0] == '0' && (count > 1 || minus))
+        return false;
+    *number = minus ? -value : value;
+    return true;
+}
+
+/* ---------------------------------------------------------------- a text taken up: plain_text.c */
 
 /* A text's setup and days, and the state and results of its run. */
 struct grid {

@@ -1,12 +1,12 @@
-# Explains a refusal of the program `balance`, or of `why`, to a person, beside tools/words.awk, tools/limits.awk and tools/numbers.awk, which read
-# the text; explain_text of tools/explain.sh runs them. Handed over as variables: number and place, those of the last line, `refused NUMBER at PLACE`; days, how
-# many the program accepted before it; asked, the cell that `why` was asked about, or nothing.
+# Explains a refusal of the program `balance`, or of `why`, to a person, beside tools/words.awk and tools/numbers.awk, which read the text,
+# tools/limits.awk and tools/cells.awk; explain_text of tools/explain.sh runs them. Handed over as variables: number and place, those of the last line,
+# `refused NUMBER at PLACE`; days, how many the program accepted before it; asked, the cell that `why` was asked about, or nothing.
 #
 # The refusal is the program's, and no proof speaks of this file: it repeats the limits of README's input table, to say which of them was
 # passed, and where. Lines, columns, rows, and the ordinals of covers and days count from 1, cells from 0 as in the refusal.
 
 BEGIN {
-    MOST_CELLS = 4096; MOST_COVERS = 64; MOST_CODE = 255; MOST_SNOW = 10000000; FREEZING = 320
+    MOST_COVERS = 64; MOST_CODE = 255; MOST_SNOW = 10000000; FREEZING = 320
     HEADER = 5; COVER = 16; CELL = 4; DAY = 7 # how many numbers each has
     CODE = 0; CURVE = 2; MOST_RECHARGE = 6; GROWING = 10; DORMANT = 11; ROOTS = 12 # of a cover's numbers, from 0
     DIRECTION = 0; CELL_COVER = 1; GROUP = 2; WATER = 3 # of a cell's
@@ -75,7 +75,7 @@ function name_day_fields(    depth, tenths) {
 # The sizes that the first numbers tell, 0 where they do not: a text can be refused before they are tested.
 function find_sizes() {
     width = given[0]; height = given[1]
-    if (count >= 2 && width >= 1 && height >= 1 && width * height <= MOST_CELLS) cells = width * height
+    if (count >= 2 && is_grid()) cells = width * height
     if (count >= HEADER && given[4] >= 1 && given[4] <= MOST_COVERS) covers = given[4]
     first_cell = HEADER + COVER * covers
     first_day = first_cell + CELL * cells
@@ -97,24 +97,14 @@ function cover_named(entry,    i) {
     return "the " ordinal(entry + 1) " of " plural(covers, "cover") (i < count ? ", code " given[i] : "")
 }
 
-function cell_named(cell) {
-    return "cell " cell " (row " row(cell) " of " height " from the top, column " col(cell) " of " width " from the left)"
-}
-
 function day_named(day) {
     return "the " ordinal(day + 1) " day" (day > 0 ? ", the one after serial " given[first_day + DAY * (day - 1) + SERIAL] : "")
 }
-
-function row(cell) { return int(cell / width) + 1 }
-
-function col(cell) { return cell % width + 1 }
 
 function ordinal(n) {
     if (n % 100 >= 11 && n % 100 <= 13) return n "th"
     return n (n % 10 == 1 ? "st" : n % 10 == 2 ? "nd" : n % 10 == 3 ? "rd" : "th")
 }
-
-function capital(text) { return toupper(substr(text, 1, 1)) substr(text, 2) }
 
 # ---------------------------------------------------------------- what is outside
 
@@ -269,9 +259,7 @@ function again(k, size,    later) {
 
 function explain_grid() {
     print at[0] ": " called["header", 0] " is " width "; " at[1] ": " called["header", 1] " is " height "."
-    if (width < 1 || height < 1) print "Each is at least 1, and the cells are " commas(MOST_CELLS) " at most."
-    else print width " x " height (width * height < 1e15 ? sprintf(" = %.0f", width * height) : "") " cells, and " commas(MOST_CELLS) \
-        " are the most: split the area along its divides."
+    say_size()
 }
 
 function explain_covers(    i) {

@@ -6,7 +6,7 @@ explain_text() { # AWK NUMBER PLACE DAYS CELL
     # shellcheck disable=SC2086
     od -An -v -tu1 |
         LC_ALL=C $1 -v number="$2" -v place="$3" -v days="$4" -v asked="$5" -f "$root/tools/words.awk" -f "$root/tools/limits.awk" \
-            -f "$root/tools/numbers.awk" -f "$root/tools/explain.awk"
+            -f "$root/tools/cells.awk" -f "$root/tools/numbers.awk" -f "$root/tools/explain.awk"
 }
 
 # Explains the refused lines of a station's readings, which are standard input: the file ANSWERS is what potential printed.

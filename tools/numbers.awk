@@ -8,8 +8,6 @@
 
 BEGIN { count = 0 }
 
-function place_of_word() { return "line " word_line ", column " word_column }
-
 # After the first bad word the others are counted only: which number of the text they would be is not known.
 function keep_word() {
     if (++bad > 1) return

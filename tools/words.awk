@@ -4,7 +4,7 @@
 #     keep_number()         the word is a number, value
 #     keep_word()           it cannot be read: unread() is its look and its fault
 #
-# In both, word_line and word_column are where the word begins. Of the text itself:
+# In both, word_line and word_column are where the word begins, place_of_word() says it, quoted() is the word itself. Of the text itself:
 #
 #     bytes                 how many there are; past is where the first beyond the longest text stands
 
@@ -14,6 +14,7 @@ BEGIN {
     MOST_SHOWN = 20 # bytes of a word that cannot be read
     TAB = 9; LINE_FEED = 10; RETURN = 13; SPACE = 32; PLUS = 43; COMMA = 44; MINUS = 45; POINT = 46; ZERO = 48; DELETE = 127
     line = 1
+    name_causes()
 }
 
 /^ *[0-9]/ { for (k = 1; k <= NF; k++) take($k + 0) }
@@ -61,9 +62,11 @@ function end_word() {
 
 # ---------------------------------------------------------------- a word that cannot be read
 
-function unread() {
-    return (long > MOST_SHOWN ? "`" shown "..` (" long " bytes)" : "`" shown "`") " cannot be read as a number: " why() "."
-}
+function unread() { return quoted() " cannot be read as a number: " why() "." }
+
+function quoted() { return long > MOST_SHOWN ? "`" shown "..` (" long " bytes)" : "`" shown "`" }
+
+function place_of_word() { return "line " word_line ", column " word_column }
 
 # A byte as it is shown.
 function look(byte) {
@@ -87,21 +90,34 @@ function kind(byte) {
 
 # Why the word cannot be read: the usual causes, all that it has.
 function why(    text) {
-    if (word_line == 1 && word_column == 1 && mark == " 239 187 191")
-        return "it begins with a byte order mark (EF BB BF): save the file without one"
-    if (word_line == 1 && word_column == 1 && mark ~ /^ (255 254|254 255)/)
-        return "the file is UTF-16, two bytes a letter: save it as plain text (ASCII)"
-    if (!other) return misread()
-    if ("point" in has) text = also(text, "a decimal point (whole numbers only)")
-    if ("comma" in has) text = also(text, "a comma (spaces part numbers, and thousands are not parted)")
-    if ("tab" in has) text = also(text, "a tab (spaces part numbers)")
-    if ("plus" in has) text = also(text, "a plus sign")
-    if ("minus" in has) text = also(text, "a minus that is not in front")
-    if ("letter" in has) text = also(text, "letters (no names, no notes, no mark for a missing value)")
-    if ("sign" in has) text = also(text, "the sign `" sign "`")
-    if ("strange" in has) text = also(text, "bytes that are no plain text (ASCII), shown as \\xNN")
-    if ("return" in has) text = also(text, "a carriage return (the file was saved with Windows or old Mac line ends)")
-    return "it has " text
+    text = marked()
+    if (text == "" && !other) text = misread()
+    return text != "" ? text : "it has " causes("point comma tab plus minus letter sign strange return")
+}
+
+# What the first word of a file may begin with.
+function marked() {
+    if (word_line > 1 || word_column > 1) return ""
+    if (mark == " 239 187 191") return "it begins with a byte order mark (EF BB BF): save the file without one"
+    return mark ~ /^ (255 254|254 255)/ ? "the file is UTF-16, two bytes a letter: save it as plain text (ASCII)" : ""
+}
+
+function name_causes() {
+    cause["point"] = "a decimal point (whole numbers only)"
+    cause["comma"] = "a comma (spaces part numbers, and thousands are not parted)"
+    cause["tab"] = "a tab (spaces part numbers)"
+    cause["plus"] = "a plus sign"
+    cause["minus"] = "a minus that is not in front"
+    cause["letter"] = "letters (no names, no notes, no mark for a missing value)"
+    cause["strange"] = "bytes that are no plain text (ASCII), shown as \\xNN"
+    cause["return"] = "a carriage return (the file was saved with Windows or old Mac line ends)"
+}
+
+# Which of these kinds of bytes the word has.
+function causes(kinds,    list, n, k, text) {
+    n = split(kinds, list, " ")
+    for (k = 1; k <= n; k++) if (list[k] in has) text = also(text, list[k] == "sign" ? "the sign `" sign "`" : cause[list[k]])
+    return text
 }
 
 function misread() {
@@ -110,4 +126,4 @@ function misread() {
     return minus && digits == 1 ? "minus zero (write 0)" : "it has a zero in front"
 }
 
-function also(text, cause) { return text == "" ? cause : text ", " cause }
+function also(text, cause_of) { return text == "" ? cause_of : text ", " cause_of }
