@@ -42,12 +42,6 @@ code-bad (good (pos k)) e = absurd (let z : _≡_ {A = ℕ} 0 1 = cc in omega ar
 code-bad (good (negsuc k)) e = absurd (let z : _≡_ {A = ℕ} 0 1 = cc in omega arith)
 code-bad bad e = refl
 
-pub below-small : (m : Word) (n : ℕ) → Small m → meaningIn m ≡ Below n → n < negatives
-unfolding meaningIn Small NineDigits
-below-small (good (pos k)) n s e = absurd (let z : _≡_ {A = ℕ} 0 1 = cc in omega arith)
-below-small (good (negsuc k)) n s e = let same : suc k ≡ n = cc in omega (arith, s)
-below-small bad n s e = absurd (let z : _≡_ {A = ℕ} 0 1 = cc in omega arith)
-
 code-small : (z : ℤ) → Small (good z) → code z < noNumber
 unfolding Small NineDigits code
 code-small (pos n) s = omega (arith, s)

@@ -218,3 +218,16 @@ pub number-small : (w : List ℕ) → Small (number w)
 unfolding Small number
 number-small [] = tt
 number-small (b ∷ bs) = byCases (eqb b 45) (λ e. rw e (small-below bs)) (λ e. rw e (small-plain (b ∷ bs)))
+
+-- by its meaning
+pub plain-small : (m : Word) (n : ℕ) → Small m → meaningIn m ≡ Plain n → n < 1000000000
+unfolding meaningIn Small NineDigits
+plain-small (good (pos k)) n s e = let same : k ≡ n = cc in omega (arith, s)
+plain-small (good (negsuc k)) n s e = absurd (let z : _≡_ {A = ℕ} 0 1 = cc in omega arith)
+plain-small bad n s e = absurd (let z : _≡_ {A = ℕ} 0 1 = cc in omega arith)
+
+pub below-small : (m : Word) (n : ℕ) → Small m → meaningIn m ≡ Below n → n < 1000000000
+unfolding meaningIn Small NineDigits
+below-small (good (pos k)) n s e = absurd (let z : _≡_ {A = ℕ} 0 1 = cc in omega arith)
+below-small (good (negsuc k)) n s e = let same : suc k ≡ n = cc in omega (arith, s)
+below-small bad n s e = absurd (let z : _≡_ {A = ℕ} 0 1 = cc in omega arith)

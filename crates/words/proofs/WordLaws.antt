@@ -15,14 +15,14 @@ use lib.Dec.{eqb}
 use Rattle.words.specs.Words.{isBlank, longer, pieces, kept, words, linesOf}
 use Rattle.words.specs.Spans.{stopsAt, before, blanks, run, lineRun, NextWord, NextLine}
 use Rattle.words.specs.declared.spans.Stop.{Stop}
-use Rattle.words.specs.declared.spans.Stop.the-variants.{Blank, LineFeed}
+use Rattle.words.specs.declared.spans.Stop.the-variants.{WordByte, Blank, LineFeed}
 
 -- the pieces after the first
-unfoldable after : List ℕ → List (List ℕ)
+unfoldable pub after : List ℕ → List (List ℕ)
 after [] = []
 after (b ∷ bs) = cond (isBlank b) (pieces bs) (after bs)
 
-first-piece : (l : List ℕ) → pieces l ≡ take (run l) l ∷ after l
+pub first-piece : (l : List ℕ) → pieces l ≡ take (run l) l ∷ after l
 unfolding pieces longer before stopsAt after
 first-piece [] = refl
 first-piece (b ∷ bs) = byCases (isBlank b) (λ e. rw e refl) (λ e. rw (e, first-piece bs) refl)
@@ -101,6 +101,17 @@ module _ (text : List ℕ) (from start end : ℕ) (skipped : start ≡ from + bl
         forward = omega (arith, skipped);
         ordered = omega (arith, ran);
       }
+
+-- past the last word there is none, and no place is past the text's end
+pub none-after : (text : List ℕ) (from start end : ℕ) → NextWord text from start end → end ≤ start → words (drop end text) ≡ []
+none-after text from start end next h =
+    let same : end ≡ start = omega (arith, next .ordered) in
+    rw same (same-words text from start end (next .starts) (next .ends) ∙ next .none h)
+
+pub end-inside : (text : List ℕ) (from start end : ℕ) → NextWord text from start end → from ≤ length text → end ≤ length text
+end-inside text from start end next h =
+    below-or-not start end (next .inside)
+    (λ none. omega (arith, next .starts, next .ordered, before-inside WordByte (drop from text), length-drop from text))
 
 kept-more : (p : List ℕ) (ps : List (List ℕ)) → length (kept (p ∷ ps)) ≤ length (kept ps) + 1
 unfolding kept

@@ -15,7 +15,7 @@ pub sets-append : (xs ys l : List ℕ) (i : ℕ) → sets l i (xs ++ ys) ≡ set
 sets-append [] ys l i = rw (add-zero i) refl
 sets-append (x ∷ xs) ys l i = rw (add-suc i (length xs), ← suc-add i (length xs)) (sets-append xs ys (set l i x) (suc i))
 
-sets-out : (xs l : List ℕ) (i : ℕ) → length l ≤ i → sets l i xs ≡ l
+pub sets-out : (xs l : List ℕ) (i : ℕ) → length l ≤ i → sets l i xs ≡ l
 sets-out [] l i h = refl
 sets-out (x ∷ xs) l i h = rw (set-out l i x h) (sets-out xs l (suc i) (omega arith))
 

@@ -2,8 +2,8 @@
 use mathlib.Core.Path.{sym, _∙_}
 use native.Mathlib.Omega.{arith}
 use borrow.Author.Needs.{needs}
-use Rattle.words.proofs.NumberLaws.{number-small}
-use Rattle.lines.proofs.ReadingLaws.{code-plain, code-below, code-bad, below-small}
+use Rattle.words.proofs.NumberLaws.{number-small, below-small}
+use Rattle.lines.proofs.ReadingLaws.{code-plain, code-below, code-bad}
 use Rattle.lines.proofs.reading.code.Statement.{statement}
 use Rattle.lines.proofs.reading.code.Tie as tie
 

@@ -1,0 +1,14 @@
+pub mod WholeLaws
+pub mod MeasureLaws
+pub mod NameLaws
+pub mod SpanLaws
+pub mod CellLaws
+pub mod JudgingLaws
+pub mod ScanLaws
+pub mod FormLaws
+pub mod MeasureForm
+pub mod AcceptedLaws
+pub mod AnswerLaws
+pub mod FormWords
+pub mod RoundLaws
+pub mod ExampleLaws
