@@ -2,8 +2,9 @@
  *
  * Every implementation offers the same three functions under its own prefix
  * (plain_, fast_, ...), so that they can be linked into one program and compared
- * cell by cell; all but the fast one also say why a cell got its figures (M-105)
- * and have a day's two estimates of potential evapotranspiration (M-103).
+ * cell by cell; all but the fast one also say why a cell got its figures (M-105),
+ * have a day's two estimates of potential evapotranspiration (M-103) and read and
+ * write Arc grids (M-101).
  * The law is document 01 as the requests of document 02 that have landed amend it;
  * "rule" and "test" numbers are document 01's.
  *
@@ -22,7 +23,15 @@ enum {
     BALANCE_ENTRY = 16,  /* numbers in one cover entry */
     BALANCE_MEMORY = 5,  /* gross precipitation of the five previous days, oldest first */
     BALANCE_TOTALS = 7,  /* gross, intercepted, evapotranspired, recharged, rejected in closed depressions, gone, stored */
-    BALANCE_REASON = 3   /* the number of a reason, and its two depths */
+    BALANCE_REASON = 3,  /* the number of a reason, and its two depths */
+    BALANCE_GRID_NUMBERS = 5, /* of an Arc grid's header: columns, rows, and the lengths of its three texts */
+    BALANCE_MEASURE = 20,     /* characters of a corner or a cell size */
+    /* The longest texts. Of both, the six lines of the header: their names with a space behind and a line feed, five
+     * digits for columns and rows together, twenty characters thrice, a minus and nine digits. Of each cell a minus and
+     * nine digits, or sixteen digits, a point and four, and the blank or line feed behind. */
+    BALANCE_GRID_HEADER = (6 + 6 + 10 + 10 + 9 + 13) + 6 + 5 + 3 * BALANCE_MEASURE + 10,
+    BALANCE_GRID_TEXT = BALANCE_GRID_HEADER + BALANCE_MAX_CELLS * (1 + 9 + 1),
+    BALANCE_INCHES_TEXT = BALANCE_GRID_HEADER + BALANCE_MAX_CELLS * (16 + 1 + 4 + 1)
 };
 
 /* The last serial of a state that has seen no day. */
@@ -92,11 +101,34 @@ static inline struct explained explained(uint64_t returned, const uint64_t reaso
 typedef uint64_t balance_turc(double mean, double radiation, double humidity, uint64_t *potential);
 typedef uint64_t balance_jensen_haise(double mean, double radiation, uint64_t *potential);
 
+/* The text of an Arc grid read: 12 at a place, or its cells and its header. Refused: no cell is changed, and the header
+ * is all zeros. */
+typedef uint64_t balance_grid_read(const uint8_t *text, size_t text_len, int32_t *cells, size_t cells_len,
+                                   uint32_t numbers[BALANCE_GRID_NUMBERS], int32_t *no_data,
+                                   uint8_t x_corner[BALANCE_MEASURE], uint8_t y_corner[BALANCE_MEASURE],
+                                   uint8_t cell_size[BALANCE_MEASURE]);
+
+/* A header, to be read only. */
+#define BALANCE_HEADER_PARAMETERS                                                    \
+    const uint32_t numbers[BALANCE_GRID_NUMBERS], int32_t no_data,                   \
+    const uint8_t x_corner[BALANCE_MEASURE], const uint8_t y_corner[BALANCE_MEASURE], \
+    const uint8_t cell_size[BALANCE_MEASURE]
+
+/* The one written form of a grid: 12 at a place, or its text from the buffer's front on and how many bytes it has.
+ * Refused: nothing is written, and that is 0. Cells are whole numbers; or units, written as inches with four decimals. */
+typedef uint64_t balance_grid_write(BALANCE_HEADER_PARAMETERS, const int32_t *cells, size_t cells_len,
+                                    uint8_t *text, size_t text_len, uint64_t *written);
+typedef uint64_t balance_grid_inches(BALANCE_HEADER_PARAMETERS, const uint64_t *units, size_t units_len,
+                                     uint8_t *text, size_t text_len, uint64_t *written);
+
 balance_check plain_check, fast_check;
 balance_fresh plain_fresh, fast_fresh;
 balance_day plain_day, fast_day;
 balance_why plain_why;
 balance_turc plain_turc;
 balance_jensen_haise plain_jensen_haise;
+balance_grid_read plain_grid_read;
+balance_grid_write plain_grid_write;
+balance_grid_inches plain_grid_inches;
 
 #endif

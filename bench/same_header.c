@@ -11,6 +11,9 @@ balance_day recharge_day;
 balance_why recharge_why;
 balance_turc recharge_turc;
 balance_jensen_haise recharge_jensen_haise;
+balance_grid_read recharge_grid_read;
+balance_grid_write recharge_grid_write;
+balance_grid_inches recharge_grid_inches;
 balance_text recharge_text;
 
 _Static_assert((int)RECHARGE_MAX_CELLS == (int)BALANCE_MAX_CELLS && (int)RECHARGE_MAX_COVERS == (int)BALANCE_MAX_COVERS, "limits");
@@ -24,3 +27,5 @@ _Static_assert(offsetof(struct recharge_cover, root_depth) == 12 * sizeof(uint32
 /* Both are longer than 16 bytes, so that no processor's C hands them over in registers (native.sh). */
 _Static_assert(sizeof(struct recharge_site) == 24 && sizeof(struct recharge_day_record) == 28, "by value");
 _Static_assert((int)RECHARGE_REASON == (int)BALANCE_REASON, "a reason and its depths");
+_Static_assert((int)RECHARGE_GRID_NUMBERS == (int)BALANCE_GRID_NUMBERS && (int)RECHARGE_MEASURE == (int)BALANCE_MEASURE, "a grid's header");
+_Static_assert((int)RECHARGE_GRID_TEXT == (int)BALANCE_GRID_TEXT && (int)RECHARGE_INCHES_TEXT == (int)BALANCE_INCHES_TEXT, "room for a grid");

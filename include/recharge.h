@@ -1,13 +1,14 @@
 /* recharge.h: a groundwater office's daily soil-water balance, proved, for C.
  *
  * A setup check, a fresh state, one day, why a cell got its figures that day, a day's potential evapotranspiration from radiation by
- * two estimates, and the program's whole text. What they do is the law of documents 01 and 02 (of 02: M-106, frozen ground, M-100,
- * melt in millimetres, M-104, rejected recharge runs on downhill, M-105, why this cell got that figure, and M-103, potential
- * evapotranspiration from radiation; M-102, a smaller program, moves no figure; docs/RULES.md has the rules in plain words); that
- * they do it, for every input, refused or not, is proved (crates/clib, docs/PROMISES.md). "Test" and "rule" numbers are document 01's.
+ * two estimates, Arc ASCII grids read and written, and the program's whole text. What they do is the law of documents 01 and 02 (of 02:
+ * M-106, frozen ground, M-100, melt in millimetres, M-104, rejected recharge runs on downhill, M-105, why this cell got that figure,
+ * M-103, potential evapotranspiration from radiation, and M-101, grids as the mapping desk has them; M-102, a smaller program, moves no
+ * figure; docs/RULES.md has the rules in plain words); that they do it, for every input, refused or not, is proved (crates/clib,
+ * docs/PROMISES.md). "Test" and "rule" numbers are document 01's.
  *
  * Build the library with `rt staticlib clib` and link target/staticlib/libclib.a, for x86-64 Linux. Of the C library it needs
- * memcpy and memset, and nothing else. examples/c has two programs over it.
+ * memcpy and memset, and nothing else. examples/c has three programs over it.
  *
  * Units: a depth is a whole number of 0.0001 inch, a temperature a whole number of tenths of a degree Fahrenheit, a frost
  * index and its setpoints whole numbers of thousandths of a Celsius degree-day. Only what the two estimates from radiation read is
@@ -15,9 +16,10 @@
  * Cells are numbered from 0, row by row from the top left.
  *
  * TWO WAYS TO CALL. With structs: fill a recharge_setup, a recharge_state and recharge_results, and call recharge_check_setup,
- * recharge_fresh_state, recharge_one_day and recharge_why_cell, whose arguments are named by their fields. They are inline and only
- * hand the fields on to the raw calls, recharge_check, recharge_fresh, recharge_day and recharge_why, which are what is proved: there
- * every slice is a pointer and its own count of numbers.
+ * recharge_fresh_state, recharge_one_day and recharge_why_cell, whose arguments are named by their fields; of Arc grids, with a
+ * recharge_grid_header, recharge_read_grid, recharge_write_grid and recharge_write_inches. They are inline and only hand the fields on
+ * to the raw calls, recharge_check, recharge_fresh, recharge_day, recharge_why, recharge_grid_read, recharge_grid_write and
+ * recharge_grid_inches, which are what is proved: there every slice is a pointer and its own count of numbers.
  *
  * Pointers: none is NULL, not even for a count of 0, and each points to as many numbers as its count or its declaration says.
  * What a call may write overlaps nothing else that it is handed. That much is the caller's word: nothing can test it. For the two
@@ -42,10 +44,12 @@
  *   8  the serial does not follow the last one: at 0
  *   9  the state outside its limits: at the cell; at the cell count for the memory or the frost index
  *  10  snowfall would take a store past 10,000,000: at the cell
+ *  12  an Arc grid, in this order: its header or its size, at 0; a cell that is no number or is the no-data number, at the cell; a
+ *      count of cells that is not the grid's, or a lent buffer that is too short, at 0
  *  13  a reading for an estimate from radiation outside its limits, or not a number: at 0
  *
- * The setup check and the fresh state use 1 to 6, a day and why 1 to 10, the two estimates 13 alone. What a refused call leaves and
- * writes stands with each call.
+ * The setup check and the fresh state use 1 to 6, a day and why 1 to 10, the calls on Arc grids 12 alone, which so comes before all
+ * others, and the two estimates 13 alone. What a refused call leaves and writes stands with each call.
  */
 #ifndef RECHARGE_H
 #define RECHARGE_H
@@ -66,7 +70,15 @@ enum {
     RECHARGE_REASON = 3, /* the number of a reason and its two depths */
     RECHARGE_FIRST_SETPOINT = 56000, /* the setpoints that the program `balance` uses */
     RECHARGE_SECOND_SETPOINT = 83000,
-    RECHARGE_TEXT = 786461 /* bytes of the longest text */
+    RECHARGE_TEXT = 786461, /* bytes of the longest text */
+    RECHARGE_GRID_NUMBERS = 5, /* of an Arc grid's header: columns, rows, and the lengths of its three texts */
+    RECHARGE_MEASURE = 20,     /* the most characters of such a text, a corner or the cell size */
+    /* Bytes of the longest written Arc grid. Its header has 135: the six names, each with the space behind it, 54; columns and rows,
+     * whose product is at most 4,096, five digits together; three texts of 20; a no-data number of a minus and nine digits; six line
+     * feeds. Each of 4,096 cells has the blank or the line feed behind it, and ten bytes (-999999999), or in inches 21
+     * (1844674407370955.1615): 135 + 4,096 x 11, and 135 + 4,096 x 22. */
+    RECHARGE_GRID_TEXT = 45191,
+    RECHARGE_INCHES_TEXT = 90247
 };
 
 /* The last serial of a state that has seen no day. It is no serial: those go from 0 to 9,999,999. */
@@ -105,7 +117,8 @@ struct recharge_setup {
     size_t covers_count;
     /* Of each cell: direction, 1 right, 2 lower right, 4 down, 8 lower left, 16 left, 32 upper left, 64 up, 128 upper right.
      * Any other number is a closed depression, also a negative one that was cast to unsigned, such as a mapping program's -9999:
-     * no test here sees it. Open water points nowhere, whatever its number. */
+     * no test here sees it (recharge_grid_read does, in a grid whose no-data number it is). Open water points nowhere, whatever its
+     * number. */
     const uint32_t *direction;
     const uint32_t *cover; /* a code of the table */
     const uint32_t *group; /* soil group, 1 to 4 for A to D */
@@ -158,6 +171,16 @@ struct recharge_day_record {
 struct recharge_reason {
     uint64_t reason;        /* 1 to 7 */
     uint64_t first, second; /* the two depths */
+};
+
+/* The header of an Arc grid (M-101). The corner of its lower left cell and the size of a cell are kept as the text that they are, each
+ * with a zero byte behind it: 1 to 20 characters, digits, with a minus in front allowed and one point with a digit on each side (-93.25,
+ * 30, 007; but not .5, 5., +1 or 1e5). */
+struct recharge_grid_header {
+    uint32_t columns, rows; /* ncols and nrows, at least 1 each, at most 4,096 cells: a setup's width and height */
+    int32_t no_data;        /* NODATA_value, -999,999,999 to 999,999,999 */
+    char x_corner[RECHARGE_MEASURE + 1], y_corner[RECHARGE_MEASURE + 1]; /* xllcorner, yllcorner */
+    char cell_size[RECHARGE_MEASURE + 1];                                /* cellsize */
 };
 
 /* ---------------------------------------------------------------- the raw calls, which are proved */
@@ -248,6 +271,63 @@ uint64_t recharge_why(struct recharge_site site,
 uint64_t recharge_turc(double mean, double radiation, double humidity, uint64_t *potential);
 uint64_t recharge_jensen_haise(double mean, double radiation, uint64_t *potential);
 
+/* An Arc ASCII grid of whole numbers read (M-101), as for a setup's direction, cover or group.
+ *
+ *   text           any bytes, any number of them. Words are parted by runs of spaces and line feeds and by nothing else: a tab or a
+ *                  carriage return is part of its word, and makes a number a bad one. The first twelve words are these names, in
+ *                  either letter case, each with its value: ncols, nrows, xllcorner, yllcorner, cellsize, NODATA_value. Every word
+ *                  after them is a cell, row by row from the top left; a row may go on over lines, and a line hold several
+ *   cells          are written, from the front on; at least columns x rows of them
+ *   numbers        are written: columns and rows, and how many characters each of the three texts has, in the order below
+ *   no_data        is written: the no-data number
+ *   x_corner, y_corner, cell_size
+ *                  are written: the texts of the corner and the cell size as struct recharge_grid_header has them, without a zero
+ *                  byte of their own, but with zeros to the twentieth byte
+ *
+ * Columns, rows, the no-data number and the cells are numbers as in `balance`: 0, or 1 to 9 digits of which the first is not 0, with a
+ * minus in front allowed. Of refusal 12 the first of these is told:
+ *
+ *   at 0           a name that is missing, another or misspelt, a value that is missing or bad, a column or row count below 1, or more
+ *                  than 4,096 cells
+ *   at the cell    a cell that is no such number, or equal in value to the no-data number: the lowest, from 0, also beyond the grid's last
+ *                  (past 4,294,967,295, which takes 8 GB of text, that number is told)
+ *   at 0           fewer or more cells than columns x rows, or cells shorter than these
+ *
+ * Refused: no cell is changed, and all that is written of the header is zeros. Accepted: cells beyond columns x rows are left as they
+ * were. No cell is then the no-data number, so that no -9999 comes through as the closed depression which recharge_setup.direction would
+ * take it for. Where none is negative, which is the caller's to see, they may be handed over as uint32_t for a setup's slices, with
+ * columns and rows as its width and height. */
+uint64_t recharge_grid_read(const uint8_t *text, size_t text_len, int32_t *cells, size_t cells_len,
+                            uint32_t numbers[RECHARGE_GRID_NUMBERS], int32_t *no_data, uint8_t x_corner[RECHARGE_MEASURE],
+                            uint8_t y_corner[RECHARGE_MEASURE], uint8_t cell_size[RECHARGE_MEASURE]);
+
+/* The same written: the one form that a grid has. Six lines have a name in lower case, a space and its value, and then each row has a
+ * line, its cells parted by single spaces; a line feed is behind each line, and no blank before it.
+ *
+ *   numbers, no_data, x_corner, y_corner, cell_size
+ *                  as recharge_grid_read writes them, within the limits of struct recharge_grid_header; what lies behind a text's
+ *                  length is not looked at
+ *   cells          -999,999,999 to 999,999,999 each; columns x rows of them
+ *   units          in place of cells: depths, any number each, written as inches with four decimals, 12345 as 1.2345 and 7 as 0.0007
+ *   text           is written, from the front on; RECHARGE_GRID_TEXT bytes, or RECHARGE_INCHES_TEXT for inches, are enough for any grid
+ *   written        is written: how many bytes the text has; those beyond it are left as they were
+ *
+ * Of refusal 12 the first of these is told:
+ *
+ *   at 0           a number, the no-data number or a text outside what a header may have
+ *   at the cell    the lowest that is outside its limits, or equal in value to the no-data number; of units one that is 10,000 x the
+ *                  no-data number, as 0 is of 0 and none is of a number below 0
+ *   at 0           fewer or more cells than columns x rows, or text shorter than what is to be written
+ *
+ * Refused: written is 0, and no byte of text is changed. What recharge_grid_write has written recharge_grid_read takes, with the same
+ * header and cells; inches have a point, which it takes for no number. */
+uint64_t recharge_grid_write(const uint32_t numbers[RECHARGE_GRID_NUMBERS], int32_t no_data, const uint8_t x_corner[RECHARGE_MEASURE],
+                             const uint8_t y_corner[RECHARGE_MEASURE], const uint8_t cell_size[RECHARGE_MEASURE],
+                             const int32_t *cells, size_t cells_len, uint8_t *text, size_t text_len, uint64_t *written);
+uint64_t recharge_grid_inches(const uint32_t numbers[RECHARGE_GRID_NUMBERS], int32_t no_data, const uint8_t x_corner[RECHARGE_MEASURE],
+                              const uint8_t y_corner[RECHARGE_MEASURE], const uint8_t cell_size[RECHARGE_MEASURE],
+                              const uint64_t *units, size_t units_len, uint8_t *text, size_t text_len, uint64_t *written);
+
 /* The program `balance` as a function: what it prints for the input's bytes.
  *
  *   input          any bytes; more than 65,536 of them are refused as text (11 at 0)
@@ -307,10 +387,63 @@ static inline uint64_t recharge_why_cell(const struct recharge_setup *setup, con
     return returned;
 }
 
+/* The characters of a header's text; of one that has no zero byte one more than any may have, so that it is refused. */
+static inline uint32_t recharge_length_(const char text[RECHARGE_MEASURE + 1])
+{
+    uint32_t length = 0;
+
+    while (length <= RECHARGE_MEASURE && text[length] != '\0')
+        length++;
+    return length;
+}
+
+/* The header's part of a call that writes a grid, and its numbers, which it lends. */
+#define RECHARGE_NUMBERS_(header)                                                                                   \
+    {(header)->columns, (header)->rows, recharge_length_((header)->x_corner), recharge_length_((header)->y_corner), \
+     recharge_length_((header)->cell_size)}
+#define RECHARGE_HEADER_(numbers, header)                                                                           \
+    numbers, (header)->no_data, (const uint8_t *)(header)->x_corner, (const uint8_t *)(header)->y_corner,           \
+        (const uint8_t *)(header)->cell_size
+
+/* recharge_grid_read. */
+static inline uint64_t recharge_read_grid(const uint8_t *text, size_t text_len, int32_t *cells, size_t cells_len,
+                                          struct recharge_grid_header *header)
+{
+    uint32_t numbers[RECHARGE_GRID_NUMBERS];
+    const uint64_t returned = recharge_grid_read(text, text_len, cells, cells_len, numbers, &header->no_data,
+                                                 (uint8_t *)header->x_corner, (uint8_t *)header->y_corner,
+                                                 (uint8_t *)header->cell_size);
+
+    header->columns = numbers[0];
+    header->rows = numbers[1];
+    header->x_corner[RECHARGE_MEASURE] = header->y_corner[RECHARGE_MEASURE] = header->cell_size[RECHARGE_MEASURE] = '\0';
+    return returned;
+}
+
+/* recharge_grid_write. */
+static inline uint64_t recharge_write_grid(const struct recharge_grid_header *header, const int32_t *cells, size_t cells_len,
+                                           uint8_t *text, size_t text_len, uint64_t *written)
+{
+    const uint32_t numbers[RECHARGE_GRID_NUMBERS] = RECHARGE_NUMBERS_(header);
+
+    return recharge_grid_write(RECHARGE_HEADER_(numbers, header), cells, cells_len, text, text_len, written);
+}
+
+/* recharge_grid_inches. */
+static inline uint64_t recharge_write_inches(const struct recharge_grid_header *header, const uint64_t *units, size_t units_len,
+                                             uint8_t *text, size_t text_len, uint64_t *written)
+{
+    const uint32_t numbers[RECHARGE_GRID_NUMBERS] = RECHARGE_NUMBERS_(header);
+
+    return recharge_grid_inches(RECHARGE_HEADER_(numbers, header), units, units_len, text, text_len, written);
+}
+
 #undef RECHARGE_SETUP_
 #undef RECHARGE_STATE_
 #undef RECHARGE_BEFORE_
 #undef RECHARGE_RESULTS_
+#undef RECHARGE_NUMBERS_
+#undef RECHARGE_HEADER_
 
 #ifdef __cplusplus
 }

@@ -3,3 +3,4 @@ pub mod HandedLaws
 pub mod TextLaws
 pub mod ReturnedLaws
 pub mod WhyLaws
+pub mod GridLaws

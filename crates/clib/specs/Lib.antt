@@ -5,3 +5,4 @@ pub mod Narrow
 pub mod Texts
 pub mod Whys
 pub mod Estimates
+pub mod Grids

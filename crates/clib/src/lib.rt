@@ -3,6 +3,7 @@
 mod calls;
 mod estimates;
 mod given;
+mod maps;
 mod numbers;
 mod state;
 mod texts;
@@ -15,5 +16,8 @@ pub use estimates::recharge_jensen_haise;
 pub use estimates::recharge_turc;
 pub use given::DayNumbers;
 pub use given::Site;
+pub use maps::recharge_grid_inches;
+pub use maps::recharge_grid_read;
+pub use maps::recharge_grid_write;
 pub use texts::recharge_text;
 pub use whys::recharge_why;
