@@ -114,6 +114,98 @@ struct exact {
 struct exact case_exact_turc(const int32_t *number);
 struct exact case_exact_jensen_haise(const int32_t *number);
 
+/* ---------------------------------------------------------------- Arc grids (M-101): cases_grids.c, cases_grids_written.c */
+
+enum {
+    ARC_CELLS = BALANCE_MAX_CELLS + 8, /* some beyond the last cell of the largest grid */
+    ARC_HEAD = 12,                     /* words of a header */
+    ARC_MEASURES = 3,                  /* of them texts: the two corners and the cell size */
+    ARC_WORD = 32,                     /* bytes of the longest word and of the zero behind it */
+    ARC_TEXT = (ARC_HEAD + 1 + ARC_CELLS) * (ARC_WORD + 12) /* bytes that are enough for every text made here */
+};
+
+/* "No cell is bad." */
+#define ARC_NONE SIZE_MAX
+
+/* A header as the raw calls have it. */
+struct arc_header {
+    uint32_t numbers[BALANCE_GRID_NUMBERS];
+    int32_t no_data;
+    uint8_t measure[ARC_MEASURES][BALANCE_MEASURE];
+};
+
+/* What is known of a grid beforehand, to be read or to be written. */
+struct arc_facts {
+    bool bad_header;
+    size_t bad_cell;      /* the lowest bad one, or ARC_NONE */
+    size_t cells, lent;   /* how many there are; numbers, or bytes, of the buffer that is lent */
+    uint32_t met;         /* which of the kinds below it has: a bit each */
+};
+
+/* What a text to be read can have that is looked for, most of it damage. */
+enum {
+    ARC_DROPPED, ARC_DOUBLED, ARC_SWAPPED, ARC_MISSPELT, ARC_SIZE, ARC_BAD_NUMBER, ARC_BAD_MEASURE, ARC_LONG_MEASURE, ARC_TRANSPOSED,
+    ARC_NO_DATA_CELL, ARC_BAD_WORD, ARC_TWO_BAD, ARC_BEYOND, ARC_ONE_LESS, ARC_ONE_MORE, ARC_MANY_MORE, ARC_NO_CELLS, ARC_SHORT, ARC_EXACT,
+    ARC_LONGER, ARC_ODD_BYTE, ARC_ZERO_BYTE, ARC_KINDS
+};
+extern const char *const arc_kind_names[ARC_KINDS];
+
+/* A text to be read: its words, and what must come of it. */
+struct arc_case {
+    char head[ARC_HEAD + 1][ARC_WORD], word[ARC_CELLS][ARC_WORD];
+    size_t heads;             /* words of the header; those of the cells are counted in the facts */
+    struct arc_header header; /* where it is taken */
+    int32_t cells[ARC_CELLS];
+    struct arc_facts facts;
+};
+
+/* A good one, as large as a grid may be where that is asked for. */
+void make_arc(struct arc_case *c, bool largest);
+void damage_arc(struct arc_case *c);
+uint64_t arc_returns(const struct arc_case *c);
+
+/* How its words stand in the text. */
+enum { ARC_ONE_FORM, ARC_PADDED, ARC_ONE_LINE, ARC_LINE_EACH, ARC_WRAPPED, ARC_RAGGED, ARC_FORMS };
+extern const char *const arc_form_names[ARC_FORMS];
+enum { ARC_LOWER, ARC_UPPER, ARC_AS_ARC, ARC_MIXED, ARC_LETTERS };
+extern const char *const arc_letter_names[ARC_LETTERS];
+
+/* Puts the names in a letter case. */
+void arc_letters(struct arc_case *c, int letters);
+
+/* The words as text, and where each ends; returns the length. */
+size_t arc_lay_out(const struct arc_case *c, int form, uint8_t *bytes, size_t *ends);
+
+/* Puts a byte that no word may have in the place of one of a word's, or behind it. */
+void arc_odd_byte(struct arc_case *c, uint8_t *bytes, size_t length, const size_t *ends);
+
+/* The same grid to be written: of whole numbers, or of units. */
+struct arc_written {
+    struct arc_header header;
+    bool inches;
+    int32_t cells[ARC_CELLS];
+    uint64_t units[ARC_CELLS];
+    struct arc_facts facts;
+};
+
+/* What a grid to be written can have. */
+enum {
+    ARC_W_SIZE, ARC_W_LENGTH, ARC_W_MEASURE, ARC_W_BEHIND, ARC_W_CUT, ARC_W_NO_DATA, ARC_W_NO_DATA_LIMIT, ARC_W_OUTSIDE, ARC_W_LIMIT, ARC_W_NO_DATA_CELL,
+    ARC_W_NEAR, ARC_W_WRAPPED, ARC_W_TWO_BAD, ARC_W_BEYOND, ARC_W_ONE_LESS, ARC_W_ONE_MORE, ARC_W_SHORT, ARC_W_EXACT, ARC_W_LONGER, ARC_W_KINDS
+};
+extern const char *const arc_written_names[ARC_W_KINDS];
+
+/* A good one with the header and cells of one that was read, and then with odd fields. The lent buffer is as long as the text, or
+ * longer, or shorter: that is said last. */
+void make_written(struct arc_written *w, const struct arc_case *c, bool inches);
+void make_longest(struct arc_written *w, bool inches);
+void damage_written(struct arc_written *w);
+void lend_written(struct arc_written *w, size_t length);
+uint64_t written_returns(const struct arc_written *w, size_t length);
+
+/* The text that must come out of a good one; returns its length. */
+size_t arc_one_form(const struct arc_written *w, uint8_t *bytes);
+
 /* ---------------------------------------------------------------- texts: cases_text.c */
 
 /* A text for the program: nearly valid or damaged; or a valid one of a winter whose

@@ -34,6 +34,15 @@ extern const struct step compass[8];
 /* A number that is a closed depression. */
 uint32_t closed_number(void);
 
+/* A word that is no number (cases_text.c), and one that is no corner or cell size of an Arc grid (cases_grids.c). */
+const char *bad_word(void);
+const char *bad_measure(void);
+
+/* Of an Arc grid: a corner or a cell size, of so many characters; a bad cell told; and a kind met. */
+void make_measure(char *text, size_t length);
+void arc_bad_at(struct arc_facts *f, size_t cell);
+void arc_meet(struct arc_facts *f, int kind);
+
 /* A length that is not the cell count, within the room. */
 size_t wrong_length(uint32_t cells);
 

@@ -185,6 +185,16 @@ static const char *const bad_tokens[] = {
     "0-",    "10-2", "1/",    "1:",        "/",    ":",     "-:",         "123456789012345678901",
 };
 
+const char *bad_word(void)
+{
+    const char *word;
+
+    do
+        word = ONE_OF(bad_tokens);
+    while (strchr(word, ' ') != NULL);
+    return word;
+}
+
 /* The list as text; a bad token may stand before one of the numbers (or after the last). */
 static size_t put_listing(const struct listing *l, unsigned char *bytes, bool with_bad)
 {

@@ -6,7 +6,8 @@
 # Builds all of them for this machine, checks the papers' figures and the worked example, and runs the implementations side by
 # side on random and damaged cases: every returned number, store, result cell, total, memory, serial and frost index, and
 # why cells got their figures, which the fast C does not say. Nor has it the estimates from radiation: those of the plain C and of
-# the library are held to binary64 worked out in integers, of readings at every limit, beside it and of odd bits. A difference
+# the library are held to binary64 worked out in integers, of readings at every limit, beside it and of odd bits. Nor Arc grids: what
+# the two read and write, in many forms and damaged, is held to what the damage foretells, every lent cell and byte of it. A difference
 # prints its seed and fails. It proves the library first where it is not proved yet, which takes minutes. After `rt ci` or
 # `rt check` only `clib` is proved once more, on its way to the archive, in under a minute; the rest takes seconds.
 #

@@ -1,5 +1,6 @@
 /* Document 01's worked example and its "Figures to check against", of melt those of M-100, M-106's
- * (figures_frost.c), M-105's, worked by hand (figures_reasons.c), and M-103's (figures_radiation.c).
+ * (figures_frost.c), M-105's, worked by hand (figures_reasons.c), M-103's (figures_radiation.c), and
+ * M-101's, worked by hand (figures_grids.c).
  *
  * Every figure is checked of the plain C's single rules, and again of every implementation in the
  * table through whole days of a one-cell grid. Prints each figure; fails if any differs. */
@@ -197,7 +198,9 @@ int main(void)
         frost_days(&implementations[i]);
         reason_days(&implementations[i]);
         radiation_days(&implementations[i]);
+        grid_texts(&implementations[i]);
     }
+    grid_structs();
     for (size_t i = 0; i < texts_count; i++)
         example(&texts[i]);
     printf("%s\n", failures == 0 ? "every figure is the paper's" : "FIGURES DIFFER");

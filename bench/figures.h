@@ -33,4 +33,8 @@ void reason_days(const struct implementation *x);
 void radiation_rules(void);
 void radiation_days(const struct implementation *x);
 
+/* M-101: of an implementation that has Arc grids, and then of the calls by structs, over the plain C (figures_grids.c). */
+void grid_texts(const struct implementation *x);
+void grid_structs(void);
+
 #endif

@@ -1,7 +1,7 @@
 /* Compares all implementations of table.c on seeded random cases (cases.h).
  *
  *     fuzz [CASES [TEXTS [SEED]]]       compare; prints how often each refusal was reached
- *     fuzz case SEED | fuzz radiation SEED | fuzz text SEED | fuzz winter SEED
+ *     fuzz case SEED | fuzz radiation SEED | fuzz grid SEED | fuzz text SEED | fuzz winter SEED
  *                                       the one case that a failure named
  *     fuzz vectors DIR COUNT SEED       writes COUNT texts and the first text function's outputs
  *                                       to DIR/NNNNN.in and DIR/NNNNN.out
@@ -11,8 +11,9 @@
  * all alone. Where the damage done foretells the refusal, it must be that one. Accepted days are
  * held against the paper's account, cell by cell and in the totals, and pairs of runs against
  * the office's demand 3. Beside every day it is asked why some of its cells got their figures. Beside
- * the cases readings are drawn, and those that have the estimates from radiation are asked. The first
- * difference prints its seed and ends the program with 1. */
+ * the cases readings are drawn, and those that have the estimates from radiation are asked; and Arc
+ * grids, which those that have them read and write. The first difference prints its seed and ends the
+ * program with 1. */
 #include "fuzz.h"
 
 #include <stdio.h>
@@ -144,6 +145,9 @@ int main(int argc, char **argv)
     } else if (argc == 3 && strcmp(argv[1], "radiation") == 0) {
         run_radiation(argument(argc, argv, 2, 0));
         printf("no difference\n");
+    } else if (argc == 3 && strcmp(argv[1], "grid") == 0) {
+        run_grids(argument(argc, argv, 2, 0));
+        printf("no difference\n");
     } else if (argc == 3 && strcmp(argv[1], "text") == 0) {
         run_text(argument(argc, argv, 2, 0));
         show_text();
@@ -160,6 +164,8 @@ int main(int argc, char **argv)
             run_case(seed + i);
         for (uint64_t i = 0; i < cases; i++)
             run_radiation(seed + i);
+        for (uint64_t i = 0; i < cases; i++)
+            run_grids(seed + i);
         double middle = seconds();
         for (uint64_t i = 0; i < text_cases; i++)
             run_text(seed + i);
@@ -176,6 +182,7 @@ int main(int argc, char **argv)
         frost_often(cases);
         reasons_often(cases);
         radiation_often(cases);
+        grids_often(cases);
         enough("a pair of runs had a day in frost", tally.frosty_pair_days, cases);
         enough("a text's frost index was near a setpoint", tally.winter_hits, text_cases);
     }

@@ -12,13 +12,14 @@ enum { MOST_IMPLEMENTATIONS = 8, REFUSALS = 14, GUARD = 1 };
 struct tally {
     uint64_t check[REFUSALS], fresh[REFUSALS], day[REFUSALS], why[REFUSALS], text[REFUSALS];
     uint64_t turc[REFUSALS], jensen_haise[REFUSALS];
+    uint64_t grid_read[REFUSALS], grid_write[REFUSALS], grid_inches[REFUSALS];
     uint64_t cell_days, pairs, pair_days, frosty_pair_days, wetter_figures, more_runs_on, text_days, winters, winter_hits;
     uint32_t most_outflow;
     uint64_t foretold;
 };
 extern struct tally tally;
 
-/* Names the case that runs now: "case", "radiation", "text" or "winter", and its seed. */
+/* Names the case that runs now: "case", "radiation", "grid", "text" or "winter", and its seed. */
 void set_current(const char *kind, uint64_t seed);
 
 /* Prints the difference with the case's seed and ends the program with 1. */
@@ -134,6 +135,15 @@ void run_radiation(uint64_t seed);
 
 void report_radiation(void);
 void radiation_often(uint64_t cases);
+
+/* ---------------------------------------------------------------- Arc grids: fuzz_grids.c */
+
+/* Has all that have M-101's calls read and write Arc grids, good ones in many forms and damaged ones, and holds what they return, every
+ * cell, byte and field that was lent to what must come of them. */
+void run_grids(uint64_t seed);
+
+void report_grids(void);
+void grids_often(uint64_t cases);
 
 /* ---------------------------------------------------------------- pairs of runs: fuzz_pairs.c */
 

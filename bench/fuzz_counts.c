@@ -9,7 +9,7 @@
 struct tally tally;
 
 /* How many different places each refusal had: bit sets. */
-static uint8_t places[REFUSALS][BALANCE_MAX_CELLS + 1];
+static uint8_t places[REFUSALS][ARC_CELLS];
 
 static const char *current_kind;
 static uint64_t current_seed;
@@ -33,19 +33,24 @@ void fail(const char *format, ...)
     exit(1);
 }
 
-/* An estimate from radiation has 13 alone, every other call of the library 1 to 10. */
-static bool exists(const uint64_t *counts, uint64_t number)
+/* The calls on Arc grids have 12 alone, at a cell that may lie beyond the largest grid; an estimate from
+ * radiation has 13 alone, every other call of the library 1 to 10. */
+static bool exists(const uint64_t *counts, uint64_t number, uint64_t place)
 {
-    const bool estimate = counts == tally.turc || counts == tally.jensen_haise;
-
-    return number == 0 || (estimate ? number == 13 : number <= 10);
+    if (number == 0)
+        return place == 0;
+    if (counts == tally.grid_read || counts == tally.grid_write || counts == tally.grid_inches)
+        return number == 12 && place < ARC_CELLS;
+    if (counts == tally.turc || counts == tally.jensen_haise)
+        return number == 13 && place == 0;
+    return number <= 10 && place <= BALANCE_MAX_CELLS;
 }
 
 void count_refusal(uint64_t *counts, uint64_t returned)
 {
     uint64_t number = returned >> 32, place = returned & UINT32_MAX;
 
-    if (!exists(counts, number) || place > BALANCE_MAX_CELLS)
+    if (!exists(counts, number, place))
         fail("a refusal that does not exist: %" PRIu64 " at %" PRIu64, number, place);
     counts[number]++;
     places[number][place] = 1;
@@ -57,7 +62,8 @@ static void report_refusals(void)
         const char *name;
         const uint64_t *counts;
     } columns[] = {{"check", tally.check}, {"fresh", tally.fresh}, {"day", tally.day},   {"why", tally.why},
-                   {"text", tally.text},   {"turc", tally.turc},   {"jensen", tally.jensen_haise}};
+                   {"text", tally.text},   {"turc", tally.turc},   {"jensen", tally.jensen_haise},
+                   {"read", tally.grid_read}, {"write", tally.grid_write}, {"inches", tally.grid_inches}};
     enum { COLUMNS = sizeof columns / sizeof columns[0] };
 
     printf("\n\n%-8s", "refusal");
@@ -65,8 +71,6 @@ static void report_refusals(void)
         printf(" %10s", columns[c].name);
     printf(" %10s\n", "places");
     for (int i = 0; i < REFUSALS; i++) {
-        if (i == 12) /* no call has it */
-            continue;
         printf("%-8d", i);
         for (int c = 0; c < COLUMNS; c++)
             printf(" %10" PRIu64, columns[c].counts[i]);
@@ -98,6 +102,7 @@ void report(uint64_t cases, uint64_t text_cases, uint64_t seed, double case_time
     report_frost();
     report_reasons();
     report_radiation();
+    report_grids();
     printf("texts of winters besides: %" PRIu64 ", with %" PRIu64 " days whose frost index is a setpoint or one beside it\n",
            tally.winters, tally.winter_hits);
     printf("day lines of texts: %" PRIu64 "\n", tally.text_days);

@@ -13,6 +13,9 @@ struct implementation {
     balance_why *why; /* NULL of one that does not say */
     balance_turc *turc; /* NULL of one that has no estimates from radiation */
     balance_jensen_haise *jensen_haise; /* likewise */
+    balance_grid_read *grid_read; /* NULL of one that has no Arc grids */
+    balance_grid_write *grid_write; /* likewise */
+    balance_grid_inches *grid_inches; /* likewise */
 };
 
 struct text_implementation {
