@@ -1,4 +1,4 @@
-// Standard input for the programs, whole or not at all.
+// Standard input and files for the programs, whole or not at all.
 ghost use mathlib.Core.Path.{_≡_};
 ghost use lib.ListN.{length, replicate};
 ghost use Rattle.intake.specs.Input.{Within};
@@ -17,12 +17,12 @@ pub fn input_room() -> [u8; 65537]
 
 // Reads until the input ends or the buffer is full, and answers how many bytes stand at its front. A read that answers less than nothing has failed:
 // that is not the end, and what came before it stands for no input. It is said on standard error, as `what` and the system's words.
-pub fn read_input(what: &[u8], buffer: &mut [u8]) -> Input
+fn read_from(file: i32, what: &[u8], buffer: &mut [u8]) -> Input
     ensures { λ r. ⌜ Within r (now (buffer .exit)) ⌝ }
 {
     let mut done = 0;
     while done < buffer.len() {
-        let got = libc::read(libc::STDIN_FILENO, &mut buffer[done..]);
+        let got = libc::read(file, &mut buffer[done..]);
         if got < 0 {
             os::fail(what);
             return Input::Failed;
@@ -34,4 +34,24 @@ pub fn read_input(what: &[u8], buffer: &mut [u8]) -> Input
         done += more;
     }
     Input::Bytes(done)
+}
+
+pub fn read_input(what: &[u8], buffer: &mut [u8]) -> Input
+    ensures { λ r. ⌜ Within r (now (buffer .exit)) ⌝ }
+{
+    read_from(libc::STDIN_FILENO, what, buffer)
+}
+
+// The same of a file, which may also fail to be opened.
+pub fn read_file(what: &[u8], name: &[u8], buffer: &mut [u8]) -> Input
+    ensures { λ r. ⌜ Within r (now (buffer .exit)) ⌝ }
+{
+    let file = os::open_read(name);
+    if file < 0 {
+        os::fail(what);
+        return Input::Failed;
+    }
+    let input = read_from(file, what, buffer);
+    libc::close(file);
+    input
 }

@@ -1,0 +1,7 @@
+pub mod FaultLaws
+pub mod SheetLaws
+pub mod CoverLaws
+pub mod TextLaws
+pub mod AnswerLaws
+pub mod ReadLaws
+pub mod TextWords
