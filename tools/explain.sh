@@ -15,3 +15,10 @@ explain_readings() { # AWK ANSWERS
     { sed -n '/^refused /p' "$2" && od -An -v -tu1; } |
         LC_ALL=C $1 -f "$root/tools/words.awk" -f "$root/tools/limits.awk" -f "$root/tools/explain_readings.awk"
 }
+
+# Explains the refusal of a grid by setup, which is standard input.
+explain_grid() { # AWK PLACE
+    # shellcheck disable=SC2086
+    od -An -v -tu1 |
+        LC_ALL=C $1 -v place="$2" -f "$root/tools/words.awk" -f "$root/tools/limits.awk" -f "$root/tools/cells.awk" -f "$root/tools/explain_grid.awk"
+}
