@@ -25,7 +25,8 @@ FILENAME ~ /[.]antt$/ {
 }
 { for (i = 1; i < NF - 1; i++) { named++; if (!(($NF, $i) in public)) { print "no " $i " in " $NF; bad = 1 } } }
 END { print named + 0 " names stand where the rules have them"; exit bad || !named }' \
-    crates/paper/specs/*.antt crates/paper/proofs/*.antt crates/theory/specs/Ways.antt crates/text/specs/Program.antt $made/rules.names
+    crates/paper/specs/*.antt crates/paper/proofs/*.antt crates/theory/specs/Ways.antt crates/text/specs/Program.antt \
+    crates/grids/specs/*.antt crates/grids/proofs/RoundLaws.antt $made/rules.names
 
 # Sums: `sum = number` in a line, and in a block every line, after words and a colon. A number with a point is rounded to the digits that
 # it has. The sums are made into a program, so that a line that is no sum fails too.
