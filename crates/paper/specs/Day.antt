@@ -2,7 +2,7 @@
 use mathlib.Core.Bool.{Bool, true}
 use mathlib.Core.List.{List, [], _∷_, _++_}
 use Prim.Native.Nat.{ℕ, _+_}
-use lib.ListN.{length}
+use lib.ListN.{length, replicate}
 use Rattle.theory.specs.Lists.{made}
 use Rattle.theory.specs.Sums.{sum, given}
 use Rattle.paper.specs.Directions.{Goes, to, leaves, stays, openWater}
@@ -61,6 +61,17 @@ pub record Results : Type 0 where
   pub evapotranspired : List ℕ
   pub recharged : List ℕ
   pub rejected : List ℕ
+
+-- one entry a cell, before the first day
+unfoldable pub noResults : ℕ → Results
+noResults n =
+    record {
+      intercepted = replicate n 0;
+      outflow = replicate n 0;
+      evapotranspired = replicate n 0;
+      recharged = replicate n 0;
+      rejected = replicate n 0;
+    }
 
 pub record Totals : Type 0 where
   pub gross : ℕ

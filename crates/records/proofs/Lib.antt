@@ -3,3 +3,4 @@ pub mod FrostLaws
 pub mod PlaceLaws
 pub mod VerdictLaws
 pub mod AnswerLaws
+pub mod FrontLaws

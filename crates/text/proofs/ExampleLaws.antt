@@ -12,7 +12,7 @@ use Rattle.paper.specs.CellDay.{today, figureOf, interceptedOf, netOf, rainOf, 
 use Rattle.paper.specs.Covers.{entries, sizeFits, groupFits, rises, entryFits}
 use Rattle.paper.specs.CurveNumber.{class, conditionOf, nearest, curveNumber}
 use Rattle.paper.specs.Frost.{floor, orZero, frostAfter, notDry, counted}
-use Rattle.paper.specs.Day.{checkOf, freshAs, freshOf, passed, own, inflow, figures, isLeaving, isGone, resultsOf, totalsOf, nextState, lengthsOf, verdictOf, figuresOf, outcomeAs, dayOf}
+use Rattle.paper.specs.Day.{checkOf, freshAs, freshOf, passed, own, inflow, figures, isLeaving, isGone, resultsOf, totalsOf, nextState, lengthsOf, verdictOf, figuresOf, outcomeAs, dayOf, noResults}
 use Rattle.paper.specs.Directions.{wayOf, stepped, cellAt, goesBy}
 use Rattle.paper.specs.Flow.{arriving, waterFrom, water}
 use Rattle.paper.specs.Interception.{intercepted, net}
@@ -26,7 +26,7 @@ use Rattle.paper.specs.State.{remembered, fiveDays, mostSoilOf, mostSnowOf, sto
 use Rattle.text.specs.Examples.{lines, Agree, paperInput, examples}
 use Rattle.words.specs.Digits.{digitsWithin, digits, bytes}
 use Rattle.lines.specs.Lines.{row, dayLine, endLine, refusedLine, refusal}
-use Rattle.text.specs.Program.{coverCount, cellCount, cellsFrom, daysFrom, dayCount, isComplete, groupGiven, setup, dayAt, noResults, dayText, daysText, freshText, startText, runText, screen, screenText, numbersText, formText, printed}
+use Rattle.text.specs.Program.{coverCount, cellCount, cellsFrom, daysFrom, dayCount, isComplete, groupGiven, setup, dayAt, dayText, daysText, freshText, startText, runText, screen, screenText, numbersText, formText, printed}
 use Rattle.words.specs.Words.{isBlank, longer, pieces, kept, words}
 use Rattle.words.specs.Numbers.{isDigit, allDigits, spelled, isFirstDigit, isCount, isZero, number}
 use Rattle.lines.specs.Reading.{andThen, meant, reading, code, codes, signed}

@@ -8,13 +8,13 @@ use native.Mathlib.Omega.{arith}
 use lib.ListN.{length, drop, length-append, drop-of-length-le}
 use lib.Seq.{sets, drop-cons}
 use Rattle.theory.specs.Lists.{made}
-use Rattle.theory.proofs.ListLaws.{made-length, made-at}
-use Rattle.paper.specs.Day.{Results, Outcome, Totals, dayOf}
+use Rattle.theory.proofs.ListLaws.{made-length, made-at, sets-append}
+use Rattle.paper.specs.Day.{Results, Outcome, Totals, dayOf, noResults}
 use Rattle.paper.specs.Refusals.{Refusal, Verdict, accepted, refused}
 use Rattle.paper.specs.Setup.{Setup}
 use Rattle.paper.specs.State.{State, Day}
 use Rattle.lines.specs.Lines.{dayLine, endLine, refusal}
-use Rattle.text.specs.Program.{dayCount, dayAt, noResults, dayText, daysText}
+use Rattle.text.specs.Program.{dayCount, dayAt, dayText, daysText}
 use Rattle.text.specs.Laying.{dayFrom}
 use Rattle.text.specs.Taking.{layoutIn}
 use Rattle.text.specs.Run.{mostText, Coded}
@@ -24,8 +24,9 @@ use Rattle.lines.specs.Writing.{mostLine, mostEnd}
 use Rattle.lines.specs.declared.telling.Told.{Told}
 use Rattle.lines.specs.declared.telling.Told.the-variants.{More, Last}
 use Rattle.text.specs.declared.taking.Layout.{Layout}
-use Rattle.text.proofs.OneDayLaws.{parts, Room, coded-day}
-use Rattle.words.proofs.WritingLaws.{sets-append, wrote-length}
+use Rattle.records.proofs.FrontLaws.{parts, Room}
+use Rattle.text.proofs.OneDayLaws.{coded-day}
+use Rattle.words.proofs.WritingLaws.{wrote-length}
 
 -- `rest`, written from `at` on, makes the whole text of the buffer
 pub record Onward (whole before now : List ℕ) (at : ℕ) (rest : List ℕ) : Type 0 where

@@ -6,7 +6,7 @@ use native.Mathlib.Omega.{arith}
 use lib.ListN.{length, take, replicate}
 use Rattle.theory.specs.Lists.{made}
 use Rattle.theory.proofs.ListLaws.{made-length}
-use Rattle.paper.specs.Day.{Fresh, freshOf}
+use Rattle.paper.specs.Day.{Fresh, freshOf, noResults}
 use Rattle.paper.specs.Refusals.{Verdict, accepted, refused, Refusal}
 use Rattle.paper.specs.Setup as paper
 use Rattle.paper.specs.State.{State}
@@ -15,11 +15,11 @@ use Rattle.records.specs.declared.grids.Grid.{Grid}
 use Rattle.records.specs.declared.grids.Climate.{Climate}
 use Rattle.lines.specs.Lines.{refusal}
 use Rattle.text.specs.Laying.{gridIn, climateIn, Laid}
-use Rattle.text.specs.Program.{cellCount, dayCount, dayAt, setup, noResults, daysText, freshText, startText, runText}
+use Rattle.text.specs.Program.{cellCount, dayCount, dayAt, setup, daysText, freshText, startText, runText}
 use Rattle.text.specs.Run.{Coded, Complete, Lent, DaysReady}
 use Rattle.text.specs.declared.taking.Layout.{Layout}
 use Rattle.text.proofs.LayingLaws.{cells-counted, cells-fit}
-use Rattle.text.proofs.OneDayLaws.{zeros}
+use Rattle.records.proofs.FrontLaws.{zeros}
 
 -- the stores before the first day: a part of an array of zeros each
 module _ (ns : List ℕ) (layout : Layout) (c : Complete ns layout) where

@@ -10,7 +10,7 @@ use Rattle.paper.specs.Limits.{within, mostCovers}
 use Rattle.paper.specs.Setup.{Setpoints, Setup, cells, gridFits}
 use Rattle.paper.specs.State.{State, Day}
 use Rattle.paper.specs.Refusals.{Verdict, accepted, refused}
-use Rattle.paper.specs.Day.{Results, Outcome, Fresh, freshOf, dayOf}
+use Rattle.paper.specs.Day.{Results, Outcome, Fresh, noResults, freshOf, dayOf}
 use Rattle.lines.specs.Reading.{Reading, reading, mostBytes, negatives, codes, signed}
 use Rattle.text.specs.declared.screening.Screened.{Screened}
 use Rattle.text.specs.declared.screening.Screened.the-variants.{Refused, Ready}
@@ -75,17 +75,6 @@ module _ (ns : List ℕ) where
         maximum = temperature (daysFrom + 7 * k + 5);
         potential = field (daysFrom + 7 * k + 6);
       }
-
--- stores and results of one entry a cell, before the first day
-unfoldable pub noResults : ℕ → Results
-noResults n =
-    record {
-      intercepted = replicate n 0;
-      outflow = replicate n 0;
-      evapotranspired = replicate n 0;
-      recharged = replicate n 0;
-      rejected = replicate n 0;
-    }
 
 -- one day's line and what follows it, or its refusal
 unfoldable pub dayText : ℕ → Outcome → Verdict → List ℕ → List ℕ

@@ -1,9 +1,10 @@
 // A run's days, each from its numbers to its line.
 ghost use lib.ListN.{length};
 ghost use Rattle.theory.specs.Lists.{made};
+ghost use Rattle.paper.specs.Day.{noResults};
 ghost use Rattle.records.specs.Grids.{setupAs};
 ghost use Rattle.records.specs.Past.{stateAs};
-ghost use Rattle.text.specs.Program.{dayCount, dayAt, noResults, daysText};
+ghost use Rattle.text.specs.Program.{dayCount, dayAt, daysText};
 ghost use Rattle.text.specs.Run.{DaysReady, mostText};
 ghost use Rattle.words.specs.Writing.{Wrote};
 use crate::fields::day_in;

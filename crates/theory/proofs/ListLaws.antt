@@ -3,12 +3,12 @@
 use mathlib.Core.Path.{_≡_, refl, sym, ap, _∙_}
 use mathlib.Core.List.{List, [], _∷_, _++_, append-nil}
 use Prim.Native.Nat.{ℕ, zero, suc, _+_, _-_, _≤_, _<_, suc-le-suc}
-use native.Mathlib.Nat.{not-suc-le-zero, le-of-suc-le-suc, zero-lt-suc, add-zero, add-sub-of-le, le-of-eq}
+use native.Mathlib.Nat.{not-suc-le-zero, le-of-suc-le-suc, zero-lt-suc, add-zero, add-suc, suc-add, add-sub-of-le, le-of-eq}
 use native.Mathlib.Numerals.{add-one}
 use native.Mathlib.Omega.{arith}
 use lib.ListN.{length, getD, set, take, drop, length-append, length-drop, length-set, drop-of-length-le, List·getD-append}
 use lib.Dec.{eqb}
-use lib.Seq.{drop-cons, set-at, append-snoc, getD-append-add, getD-drop, getD-set-same, getD-set-other, ext-getD}
+use lib.Seq.{sets, drop-cons, set-at, append-snoc, getD-append-add, getD-drop, getD-set-same, getD-set-other, ext-getD}
 use borrow.Author.Tests.{eqb-true, eqb-false}
 use Rattle.theory.specs.Lists.{made, madeOver}
 use Rattle.theory.proofs.Cases.{byCases, below-or-not}
@@ -114,3 +114,8 @@ made-set n k f g x here other =
 -- one turn of a loop that writes a list place by place: x is stored at i, and the places below i were the rule's already
 pub wrote : (f : ℕ → ℕ) (before now : List ℕ) (i x : ℕ) → now ≡ madeOver i f before → x ≡ f i → i < length before → set now i x ≡ madeOver (i + 1) f before
 wrote f before now i x e v h = rw (add-one i, e, v) (over-more i f before h)
+
+-- what is written in two parts, the second behind the first
+pub sets-append : (xs ys l : List ℕ) (i : ℕ) → sets l i (xs ++ ys) ≡ sets (sets l i xs) (i + length xs) ys
+sets-append [] ys l i = rw (add-zero i) refl
+sets-append (x ∷ xs) ys l i = rw (add-suc i (length xs), ← suc-add i (length xs)) (sets-append xs ys (set l i x) (suc i))

@@ -3,17 +3,14 @@
 use mathlib.Core.Path.{_≡_, refl, sym, ap, _∙_}
 use mathlib.Core.List.{List, [], _∷_, _++_}
 use Prim.Native.Nat.{ℕ, suc, _+_, _≤_, _<_, min}
-use native.Mathlib.Nat.{add-zero, add-suc, suc-add, le-refl}
+use native.Mathlib.Nat.{le-refl}
 use native.Mathlib.Numerals.{add-one}
 use native.Mathlib.Omega.{arith}
 use lib.ListN.{length, getD, set, take, length-append}
 use lib.Seq.{sets, length-sets, set-out, take-suc, take-all}
 use Rattle.theory.proofs.Cases.{below-or-not}
+use Rattle.theory.proofs.ListLaws.{sets-append}
 use Rattle.words.specs.Writing.{farthest, Put, Wrote}
-
-pub sets-append : (xs ys l : List ℕ) (i : ℕ) → sets l i (xs ++ ys) ≡ sets (sets l i xs) (i + length xs) ys
-sets-append [] ys l i = rw (add-zero i) refl
-sets-append (x ∷ xs) ys l i = rw (add-suc i (length xs), ← suc-add i (length xs)) (sets-append xs ys (set l i x) (suc i))
 
 pub sets-out : (xs l : List ℕ) (i : ℕ) → length l ≤ i → sets l i xs ≡ l
 sets-out [] l i h = refl

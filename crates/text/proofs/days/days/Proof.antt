@@ -12,14 +12,14 @@ use lib.Seq.{length-take-le}
 use Rattle.theory.specs.Lists.{made}
 use Rattle.paper.specs.Setup.{Setup}
 use Rattle.paper.specs.State.{State}
-use Rattle.paper.specs.Day.{Results}
+use Rattle.paper.specs.Day.{Results, noResults}
 use Rattle.records.specs.Grids.{setupAs}
 use Rattle.records.specs.Past.{stateAs}
 use Rattle.records.specs.Days.{dayAs}
 use Rattle.records.specs.Verdicts.{verdictAs}
 use Rattle.records.specs.Answers.{totalsAs, resultsAs}
-use Rattle.text.specs.Program.{dayCount, dayAt, noResults}
-use Rattle.text.proofs.OneDayLaws.{parts, Room, no-results, room, after, left}
+use Rattle.text.specs.Program.{dayCount, dayAt}
+use Rattle.records.proofs.FrontLaws.{parts, Room, no-results, room, after, left}
 use Rattle.text.proofs.RunLaws.{Running, underway-first, day-count, this-day, count-few, all-told, told-last, told-more}
 
 -- apart from the places, of which `omega` would read all that is known

@@ -6,7 +6,7 @@ use Rattle.text.proofs.starting.started.Tie as tie
 use Prim.Native.Nat.{_≤_}
 use Rattle.text.specs.Run.{Complete}
 use Rattle.text.proofs.LayingLaws.{cells-fit, table-starts, table-ends, part-held, part-long, laid}
-use Rattle.text.proofs.OneDayLaws.{part-length}
+use Rattle.records.proofs.FrontLaws.{part-length}
 use Rattle.text.proofs.StartLaws.{lent}
 
 -- the places that the needs name: from the last column back to the start

@@ -4,7 +4,7 @@ use borrow.Author.Needs.{needs}
 use Prim.Native.Nat.{_≤_}
 use Rattle.text.specs.Run.{Complete}
 use Rattle.text.proofs.LayingLaws.{cells-fit, table-starts, table-ends, part-held, part-long}
-use Rattle.text.proofs.OneDayLaws.{part-length}
+use Rattle.records.proofs.FrontLaws.{part-length}
 use Rattle.why.proofs.run.started.Statement.{statement}
 use Rattle.why.proofs.run.started.Tie as tie
 
