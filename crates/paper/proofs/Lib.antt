@@ -15,6 +15,7 @@ pub mod SetupLaws
 pub mod DayLaws
 pub mod AccountLaws
 pub mod RunLaws
+pub mod PeriodLaws
 pub mod StarredFigures
 pub mod EdgeFigures
 pub mod FrostFigures

@@ -16,5 +16,6 @@ pub mod Flow
 pub mod Refusals
 pub mod Day
 pub mod Run
+pub mod Period
 pub mod Reasons
 pub mod Radiation
