@@ -5,7 +5,6 @@ use mathlib.Core.Bool.{true, false}
 use mathlib.Core.List.{List, [], _∷_, _++_}
 use Prim.Native.Nat.{ℕ, _≤_}
 use native.Mathlib.Omega.{arith}
-use lib.ListN.{length}
 use borrow.Author.Tests.{eqb-true}
 use Rattle.theory.proofs.Cases.{byCases, and-left, and-right}
 use Rattle.paper.specs.Limits.{mostGross}
@@ -18,28 +17,20 @@ use Rattle.paper.proofs.RefusalLaws.{pass-single, fail-single, accepted-then, r
 use Rattle.records.specs.Verdicts.{verdictIn}
 use Rattle.records.specs.declared.verdicts.Verdict as code
 use Rattle.records.specs.declared.verdicts.Verdict.the-variants.{Accepted}
-use Rattle.records.proofs.VerdictLaws.{accepted-back}
-use Rattle.weather.specs.Today.{todayAs, weatherOf}
+use Rattle.weather.specs.Today.{weatherOf}
 use Rattle.weather.proofs.TodayLaws.{day-known, today-fits}
 use Rattle.covers.specs.Plots.{plotsOf}
 use Rattle.covers.proofs.PlotLaws.{fall-is}
 use Rattle.covers.proofs.TableLaws.{count-limit}
-use Rattle.survey.specs.Charts.{Mapped, Surveyed}
 use Rattle.survey.proofs.CallLaws.{grid-bad, more-bad, more-fit}
 use Rattle.stores.specs.States.{lentTests, stateTests}
 use Rattle.stores.specs.Snowfall.{Falls, snowTests}
 use Rattle.stores.proofs.TestLaws as stores
-use Rattle.admission.specs.Tests.{laterTests, allTests, Arrays, AllTested}
-use Rattle.admission.specs.declared.tests.Tested.{Tested}
+use Rattle.admission.specs.Tests.{laterTests, allTests}
 
 -- no verdict is both
 clash : (why : Refusal) → accepted ≡ refused why → ⊥
 clash why e = let z : _≡_ {A = ℕ} 0 1 = cc in omega arith
-
--- a verdict that no refusal is
-unrefused : (v : Verdict) → ((why : Refusal) → v ≡ refused why → ⊥) → v ≡ accepted
-unrefused accepted never = refl
-unrefused (refused why) never = absurd (never why refl)
 
 -- a refusal of the first tests stands, whatever comes after them
 pub stands : (us vs : List Test) (v : code.Verdict) → v ≡ verdictIn (verdict us) → (v ≡ Accepted → ⊥) → v ≡ verdictIn (verdict (us ++ vs))
@@ -154,7 +145,7 @@ module _ (s : Setup) (st : State) (d : Day) (slots plots₀ : List ℕ) (ok : st
       (λ day. day-bad _ _ _ _ _ _ _ d _ day
       ∙ sym (fail-single (single (follows (st .past .last) (d .serial)) serialGap ∷ stores.ninth s st ∷ stores.tenth s st read ∷ []) _ dayRecord day))
 
--- all ten, with the lengths of the stores and results: a refusal of some of the first is the refusal of all
+-- all ten, with the lengths of the stores and results: a refusal of some of the first is the refusal of all, and where they pass the day's decide
 module _ (s : Setup) (more : List ℕ) (st : State) (d : Day) where
   abbrev all : Verdict
   all = verdict (allTests s more st d)
@@ -162,78 +153,12 @@ module _ (s : Setup) (more : List ℕ) (st : State) (d : Day) where
   abbrev first : Verdict
   first = verdict (lentTests (s .grid) more)
 
-  lent-refuses-all : (why : Refusal) → first ≡ refused why → all ≡ refused why
-  lent-refuses-all why v = refused-then (dayTests s st d) (setupTests s (setupLengths s ++ more)) why (lent-refuses s more why v)
+  pub lent-decides : (why : Refusal) → first ≡ refused why → all ≡ refused why
+  lent-decides why v = refused-then (dayTests s st d) (setupTests s (setupLengths s ++ more)) why (lent-refuses s more why v)
 
-  survey-refuses-all : first ≡ accepted → (why : Refusal) → checkOf s ≡ refused why → all ≡ refused why
-  survey-refuses-all ok why v = refused-then (dayTests s st d) (setupTests s (setupLengths s ++ more)) why (more-fit s more (lent-passes (s .grid) more ok) ∙ v)
+  module _ (each : oneEach (cells s) more ≡ true) where
+    pub survey-decides : (why : Refusal) → checkOf s ≡ refused why → all ≡ refused why
+    survey-decides why v = refused-then (dayTests s st d) (setupTests s (setupLengths s ++ more)) why (more-fit s more each ∙ v)
 
-  lent-accepts : all ≡ accepted → first ≡ accepted
-  lent-accepts a = unrefused first (λ why q. clash why (sym a ∙ lent-refuses-all why q))
-
-  survey-accepts : all ≡ accepted → checkOf s ≡ accepted
-  survey-accepts a = unrefused (checkOf s) (λ why q. clash why (sym a ∙ survey-refuses-all (lent-accepts a) why q))
-
-  module _ (before : Arrays) (r : Tested) (after : Arrays) where
-    -- an admitted day has the arrays of its setup, and the plots of the day
-    pub admitted : AllTested s more st d before r after → all ≡ accepted
-        → Mapped s (before .slots) (before .ways) (after .slots) (after .ways) (after .order)
-        × (after .plots ≡ plotsOf (todayAs (r .today)) (s .covers) (before .plots))
-    admitted t a = (t .surveyed (lent-accepts a) .mapped (survey-accepts a), t .laid (lent-accepts a) (survey-accepts a))
-
-    module _ (is : todayAs (r .today) ≡ weatherOf (s .climate) (st .past) d) where
-      pub lent-decides : r .verdict ≡ verdictIn first → (r .verdict ≡ Accepted → ⊥) → after ≡ before → AllTested s more st d before r after
-      lent-decides e not kept = go first refl
-        where
-          go : (v : Verdict) → first ≡ v → AllTested s more st d before r after
-          go accepted q = absurd (not (e ∙ ap verdictIn q))
-          go (refused why) q =
-              record {
-                verdict-is = e ∙ ap verdictIn (q ∙ sym (lent-refuses-all why q));
-                weather = is;
-                untouched = λ w v. kept;
-                surveyed = λ v. absurd (clash why (sym v ∙ q));
-                unlaid = λ w v. ap (λ (a : Arrays). a .plots) kept;
-                laid = λ v k. absurd (clash why (sym v ∙ q));
-              }
-
-      module _ (ok : first ≡ accepted) where
-        pub survey-decides : Surveyed s (before .slots) (before .ways) (r .verdict) (after .slots) (after .ways) (after .order) → (r .verdict ≡ Accepted → ⊥)
-            → after .plots ≡ before .plots → AllTested s more st d before r after
-        survey-decides surveyed not kept = go (checkOf s) refl
-          where
-            go : (v : Verdict) → checkOf s ≡ v → AllTested s more st d before r after
-            go accepted q = absurd (not (surveyed .verdict-is ∙ ap verdictIn q))
-            go (refused why) q =
-                record {
-                  verdict-is = surveyed .verdict-is ∙ ap verdictIn (q ∙ sym (survey-refuses-all ok why q));
-                  weather = is;
-                  untouched = λ w v. absurd (clash w (sym ok ∙ v));
-                  surveyed = λ v. record { verdict-is = refl; mapped = surveyed .mapped; wiped = surveyed .wiped };
-                  unlaid = λ w v. kept;
-                  laid = λ v k. absurd (clash why (sym k ∙ q));
-                }
-
-        -- a setup that passed: the day's tests decide
-        pub day-decides : (v : code.Verdict) → Surveyed s (before .slots) (before .ways) v (after .slots) (after .ways) (after .order) → v ≡ Accepted
-            → length (st .soil) ≡ cells s → length (st .snow) ≡ cells s → after .plots ≡ plotsOf (todayAs (r .today)) (s .covers) (before .plots)
-            → r .verdict ≡ verdictIn (verdict (laterTests (s .grid) (s .covers) (after .slots) (s .available) (st .soil) (st .snow) (st .past) d (after .plots)))
-            → AllTested s more st d before r after
-        day-decides v surveyed passed soils snows laid e =
-            let setup : checkOf s ≡ accepted = accepted-back _ (sym passed ∙ surveyed .verdict-is) in
-            let m = surveyed .mapped setup in
-            let testable : stores.Testable s st (after .slots)
-            = record { passed = setup; lent = before .slots; slots-are = m .slots-are; slots-sized = m .slots-sized; soils = soils; snows = snows } in
-            let same : all ≡ verdict (dayTests s st d)
-            = accepted-then (dayTests s st d) (setupTests s (setupLengths s ++ more)) (more-fit s more (lent-passes (s .grid) more ok) ∙ setup) in
-            record {
-              verdict-is =
-                  e
-                  ∙ ap (λ (p : List ℕ). verdictIn (verdict (laterTests (s .grid) (s .covers) (after .slots) (s .available) (st .soil) (st .snow) (st .past) d p))) laid
-                  ∙ ap verdictIn (later-paper s st d (after .slots) (before .plots) testable (todayAs (r .today)) is ∙ sym same);
-              weather = is;
-              untouched = λ w v. absurd (clash w (sym ok ∙ v));
-              surveyed = λ k. record { verdict-is = refl; mapped = surveyed .mapped; wiped = surveyed .wiped };
-              unlaid = λ w k. absurd (clash w (sym setup ∙ k));
-              laid = λ k c. laid;
-            }
+    pub day-decides : checkOf s ≡ accepted → all ≡ verdict (dayTests s st d)
+    day-decides v = accepted-then (dayTests s st d) (setupTests s (setupLengths s ++ more)) (more-fit s more each ∙ v)

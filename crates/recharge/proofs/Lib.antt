@@ -4,3 +4,7 @@ pub mod SliceLaws
 pub mod TotalsLaws
 pub mod DownhillLaws
 pub mod AnswerLaws
+pub mod SurveyedLaws
+pub mod SumsLaws
+pub mod PeriodLaws
+pub mod OpeningLaws

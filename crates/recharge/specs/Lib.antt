@@ -3,3 +3,5 @@ pub mod Soil
 pub mod CellDay
 pub mod Totals
 pub mod Downhill
+pub mod Surveyed
+pub mod Period

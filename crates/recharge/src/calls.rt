@@ -5,10 +5,9 @@ ghost use Rattle.records.specs.Grids.{setupAs};
 ghost use Rattle.records.specs.Past.{stateAs};
 ghost use Rattle.records.specs.Days.{dayAs};
 ghost use Rattle.records.specs.Answers.{resultsAs, outcomeAs};
-use crate::downhill::downhill;
+use crate::surveyed::surveyed_day;
 use admission::Lengths;
-use admission::admit;
-use covers::PLOT_ROOM;
+use admission::lent_verdict;
 use records::Answer;
 use records::Climate;
 use records::DayRecord;
@@ -16,6 +15,7 @@ use records::Grid;
 use records::MOST_CELLS;
 use records::Past;
 use records::Verdict;
+use survey::survey;
 
 // One day: tests 1 to 10, then the five results and the two stores of every cell, the totals, and the next memory, serial and frost index. A day refused hands
 // back what it was given, and no totals.
@@ -43,10 +43,6 @@ pub fn day(
         (stateAs (now (soil .entry)) (now (snow .entry)) past)
         (resultsAs (now (intercepted .entry)) (now (outflow .entry)) (now (evapotranspired .entry)) (now (recharged .entry)) (now (rejected .entry))) (dayAs day) ⌝ }
 {
-    let mut slots = [0u8; MOST_CELLS];
-    let mut ways = [0u32; MOST_CELLS];
-    let mut order = [0u32; MOST_CELLS];
-    let mut plots = [0u32; PLOT_ROOM];
     let lengths = Lengths {
         intercepted: intercepted.len(),
         outflow: outflow.len(),
@@ -54,7 +50,14 @@ pub fn day(
         recharged: recharged.len(),
         rejected: rejected.len(),
     };
-    let tested = admit(
+    let lent = lent_verdict(grid, soil.len(), snow.len(), lengths);
+    let Verdict::Accepted = lent else {
+        return Answer::refused(lent, past);
+    };
+    let mut slots = [0u8; MOST_CELLS];
+    let mut ways = [0u32; MOST_CELLS];
+    let mut order = [0u32; MOST_CELLS];
+    let setup = survey(
         grid,
         climate,
         covers,
@@ -62,27 +65,21 @@ pub fn day(
         cover,
         group,
         available,
-        soil,
-        snow,
-        lengths,
-        past,
-        day,
         &mut slots,
         &mut ways,
         &mut order,
-        &mut plots,
     );
-    let verdict = tested.verdict;
-    let Verdict::Accepted = verdict else {
-        return Answer::refused(verdict, past);
+    let Verdict::Accepted = setup else {
+        return Answer::refused(setup, past);
     };
-    let totals = downhill(
-        tested.today,
-        &plots,
+    surveyed_day(
+        grid,
+        climate,
+        covers,
+        available,
         &slots,
         &ways,
         &order,
-        available,
         soil,
         snow,
         intercepted,
@@ -90,6 +87,7 @@ pub fn day(
         evapotranspired,
         recharged,
         rejected,
-    );
-    Answer::accepted(totals, past.after(day))
+        past,
+        day,
+    )
 }

@@ -3,12 +3,16 @@ mod calls;
 mod cell_day;
 mod downhill;
 mod loss;
+mod periods;
 mod runoff;
 mod soil;
+mod surveyed;
 mod totals;
 mod ways;
 
 pub use calls::day;
+pub use periods::Ended;
+pub use periods::period;
 pub use records::Answer;
 pub use records::Climate;
 pub use records::CurveNumber;

@@ -1,4 +1,4 @@
--- `tests::day_tests` meets its contract: each way out is the verdict of tests 7 to 10 up to there.
+-- `tests::day_verdict` meets its contract: each way out is the verdict of tests 7 to 10 up to there.
 use mathlib.Core.Bool.{true}
 use mathlib.Core.List.{[], _∷_}
 use mathlib.Core.Path.{_≡_, sym, ap, _∙_}
@@ -12,8 +12,8 @@ use Rattle.records.specs.Past.{lastAs}
 use Rattle.records.specs.Verdicts.{verdictIn}
 use Rattle.records.proofs.VerdictLaws.{accepted-back}
 use Rattle.admission.proofs.TestLaws.{stands, day-bad, serial-bad, record-good}
-use Rattle.admission.proofs.tests.day_tests.Statement.{statement}
-use Rattle.admission.proofs.tests.day_tests.Tie as tie
+use Rattle.admission.proofs.tests.day_verdict.Statement.{statement}
+use Rattle.admission.proofs.tests.day_verdict.Tie as tie
 
 returns : tie.Need-returns
 returns c = (
@@ -58,8 +58,8 @@ returns-4 c =
           ∙ accepted-then _ _ (accepted-back _ (sym (told .enum-told .given .1) ∙ state .state-verdict .ensures)))),
     )
 
-pub day-tests-spec : {M : Type 1} → statement M
-day-tests-spec =
+pub day-verdict-spec : {M : Type 1} → statement M
+day-verdict-spec =
     tie.close
     (tie.spec
     (λ c κs. search needs)

@@ -1,4 +1,4 @@
--- `tests::lent_fit` meets its contract: each way out is the verdict of tests 1 and 2 of the stores' and the results' lengths.
+-- `tests::lent_verdict` meets its contract: each way out is the verdict of tests 1 and 2 of the stores' and the results' lengths.
 use mathlib.Core.Bool.{true}
 use mathlib.Core.List.{List, [], _∷_}
 use mathlib.Core.Path.{_≡_, sym, ap, _∙_}
@@ -12,8 +12,8 @@ use Rattle.records.specs.Grids.{gridAs}
 use Rattle.records.specs.Verdicts.{verdictIn}
 use Rattle.survey.proofs.CallLaws.{each-both}
 use Rattle.admission.proofs.TestLaws.{no-grid, not-each, lent-good}
-use Rattle.admission.proofs.tests.lent_fit.Statement.{statement}
-use Rattle.admission.proofs.tests.lent_fit.Tie as tie
+use Rattle.admission.proofs.tests.lent_verdict.Statement.{statement}
+use Rattle.admission.proofs.tests.lent_verdict.Tie as tie
 
 returns : tie.Need-returns
 returns c = ap verdictIn (sym (no-grid _ _ (sym (c .before .fits2 .ensures) ∙ not-true _ (c .if1 .taken))))
@@ -65,8 +65,8 @@ returns-4 c =
     (each-both _ (stores s) _ ∙ and-both _ _ (stored kept)
     (ap (λ (n : ℕ). oneEach n (results s)) (sym (counted .cells .ensures)) ∙ sym (c .before .results-each .ensures) ∙ not-false _ (c .if3 .left)))))
 
-pub lent-fit-spec : {M : Type 1} → statement M
-lent-fit-spec =
+pub lent-verdict-spec : {M : Type 1} → statement M
+lent-verdict-spec =
     tie.close
     (tie.spec
     (λ c κs. search needs)
