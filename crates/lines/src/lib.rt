@@ -13,6 +13,7 @@ pub use reading::read;
 pub use telling::Told;
 pub use telling::tell;
 pub use writing::ended;
+pub use writing::line;
 pub use writing::refusal;
 pub use writing::refused;
 pub use writing::units;

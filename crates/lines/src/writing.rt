@@ -22,7 +22,7 @@ fn pair(buffer: &mut [u8], at: usize, m: u64, n: u64, end: u8) -> usize
 }
 
 // A day's line: its serial and the seven totals.
-pub(crate) fn line(buffer: &mut [u8], at: usize, serial: u32, totals: Totals) -> usize
+pub fn line(buffer: &mut [u8], at: usize, serial: u32, totals: Totals) -> usize
     ensures { λ r. ⌜ Wrote mostLine at (dayLine serial (totalsAs totals)) (now (buffer .entry)) (now (buffer .exit)) r ⌝ }
 {
     let gross = totals.gross.0;
