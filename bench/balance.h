@@ -3,8 +3,8 @@
  * Every implementation offers the same three functions under its own prefix
  * (plain_, fast_, ...), so that they can be linked into one program and compared
  * cell by cell; all but the fast one also say why a cell got its figures (M-105),
- * have a day's two estimates of potential evapotranspiration (M-103) and read and
- * write Arc grids (M-101).
+ * have a day's two estimates of potential evapotranspiration (M-103), read and
+ * write Arc grids (M-101) and take a list of days in one call.
  * The law is document 01 as the requests of document 02 that have landed amend it;
  * "rule" and "test" numbers are document 01's.
  *
@@ -24,6 +24,8 @@ enum {
     BALANCE_MEMORY = 5,  /* gross precipitation of the five previous days, oldest first */
     BALANCE_TOTALS = 7,  /* gross, intercepted, evapotranspired, recharged, rejected in closed depressions, gone, stored */
     BALANCE_REASON = 3,  /* the number of a reason, and its two depths */
+    BALANCE_DAY = 7,     /* numbers of a day in a list: serial, day of the year, gross, minimum, mean, maximum, potential */
+    BALANCE_SUMS = 5,    /* of each cell over a period: intercepted, outflow, evapotranspired, recharged, rejected */
     BALANCE_GRID_NUMBERS = 5, /* of an Arc grid's header: columns, rows, and the lengths of its three texts */
     BALANCE_MEASURE = 20,     /* characters of a corner or a cell size */
     /* The longest texts. Of both, the six lines of the header: their names with a space behind and a line feed, five
@@ -81,6 +83,14 @@ typedef uint64_t balance_fresh(BALANCE_SETUP_PARAMETERS, BALANCE_STATE_PARAMETER
 typedef uint64_t balance_day(BALANCE_SETUP_PARAMETERS, BALANCE_STATE_PARAMETERS,
                              BALANCE_RESULT_PARAMETERS, struct recharge_day_record day);
 
+/* Tests 1 to 6, where test 2 is of the lists too, then a list of days from the fresh state, BALANCE_DAY numbers each, up to the first
+ * that is refused. Soil, snow, BALANCE_SUMS sums a cell (all cells' of a figure in a row) and BALANCE_TOTALS totals a day are those of
+ * the days before it, whose number is accepted. Refused before any day: nothing but accepted, which is 0, is changed. */
+typedef uint64_t balance_period(BALANCE_SETUP_PARAMETERS, const int32_t *days, size_t days_len,
+                                uint32_t *soil, size_t soil_len, uint32_t *snow, size_t snow_len,
+                                uint64_t *sums, size_t sums_len, uint64_t *totals, size_t totals_len,
+                                uint64_t *accepted);
+
 /* Tests 1 to 10, with the cell among those of test 4, then why the cell gets its figures on that day:
  * the reason's number and its two depths. Refused: three zeros. */
 typedef uint64_t balance_why(BALANCE_SETUP_PARAMETERS, BALANCE_BEFORE_PARAMETERS,
@@ -124,6 +134,7 @@ typedef uint64_t balance_grid_inches(BALANCE_HEADER_PARAMETERS, const uint64_t *
 balance_check plain_check, fast_check;
 balance_fresh plain_fresh, fast_fresh;
 balance_day plain_day, fast_day;
+balance_period plain_period;
 balance_why plain_why;
 balance_turc plain_turc;
 balance_jensen_haise plain_jensen_haise;

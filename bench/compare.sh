@@ -7,9 +7,10 @@
 # side on random and damaged cases: every returned number, store, result cell, total, memory, serial and frost index, and
 # why cells got their figures, which the fast C does not say. Nor has it the estimates from radiation: those of the plain C and of
 # the library are held to binary64 worked out in integers, of readings at every limit, beside it and of odd bits. Nor Arc grids: what
-# the two read and write, in many forms and damaged, is held to what the damage foretells, every lent cell and byte of it. A difference
+# the two read and write, in many forms and damaged, is held to what the damage foretells, every lent cell and byte of it. Nor lists of
+# days in one call: every sum and total of the library's is held to single days of the plain C. A difference
 # prints its seed and fails. It proves the library first where it is not proved yet, which takes minutes. After `rt ci` or
-# `rt check` only `clib` is proved once more, on its way to the archive, in under a minute; the rest takes seconds.
+# `rt check` only `clib` and `cperiod` are proved once more, on their way to the archives, in under a minute; the rest takes seconds.
 #
 # PROVED=no leaves the proved library out. Another implementation of balance.h, with the prefix other_, stands in for it by
 #     THIRD=other THIRD_TEXT=other THIRD_OBJECTS="path/other.o ..." ./compare.sh
@@ -22,8 +23,10 @@ mkdir -p build
 CC=${CC:-cc}
 SHIPPED=no
 if [ "${PROVED:-yes}" = yes ] && [ -z "${THIRD:-}" ]; then
-    ./native.sh clib build/libclib.a
-    THIRD=recharge THIRD_TEXT=recharge THIRD_OBJECTS=build/libclib.a SHIPPED=yes
+    for crate in clib cperiod; do
+        ./native.sh $crate build/lib$crate.a
+    done
+    THIRD=recharge THIRD_TEXT=recharge THIRD_OBJECTS='build/libclib.a build/libcperiod.a' SHIPPED=yes
     # the header for C says the same as balance.h
     $CC $WARN -fsyntax-only same_header.c
 fi

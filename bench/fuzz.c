@@ -1,8 +1,8 @@
 /* Compares all implementations of table.c on seeded random cases (cases.h).
  *
  *     fuzz [CASES [TEXTS [SEED]]]       compare; prints how often each refusal was reached
- *     fuzz case SEED | fuzz radiation SEED | fuzz grid SEED | fuzz text SEED | fuzz winter SEED
- *                                       the one case that a failure named
+ *     fuzz case SEED | fuzz period SEED | fuzz radiation SEED | fuzz grid SEED | fuzz text SEED |
+ *     fuzz winter SEED                  the one case that a failure named
  *     fuzz vectors DIR COUNT SEED       writes COUNT texts and the first text function's outputs
  *                                       to DIR/NNNNN.in and DIR/NNNNN.out
  *
@@ -12,7 +12,8 @@
  * held against the paper's account, cell by cell and in the totals, and pairs of runs against
  * the office's demand 3. Beside every day it is asked why some of its cells got their figures. Beside
  * the cases readings are drawn, and those that have the estimates from radiation are asked; and Arc
- * grids, which those that have them read and write. The first difference prints its seed and ends the
+ * grids, which those that have them read and write; and lists of days, for those that take them in
+ * one call. The first difference prints its seed and ends the
  * program with 1. */
 #include "fuzz.h"
 
@@ -142,6 +143,9 @@ int main(int argc, char **argv)
     if (argc == 3 && strcmp(argv[1], "case") == 0) {
         run_case(argument(argc, argv, 2, 0));
         printf("no difference\n");
+    } else if (argc == 3 && strcmp(argv[1], "period") == 0) {
+        run_period(argument(argc, argv, 2, 0));
+        printf("no difference\n");
     } else if (argc == 3 && strcmp(argv[1], "radiation") == 0) {
         run_radiation(argument(argc, argv, 2, 0));
         printf("no difference\n");
@@ -163,6 +167,8 @@ int main(int argc, char **argv)
         for (uint64_t i = 0; i < cases; i++)
             run_case(seed + i);
         for (uint64_t i = 0; i < cases; i++)
+            run_period(seed + i);
+        for (uint64_t i = 0; i < cases; i++)
             run_radiation(seed + i);
         for (uint64_t i = 0; i < cases; i++)
             run_grids(seed + i);
@@ -177,6 +183,7 @@ int main(int argc, char **argv)
         reached_often("day", tally.day, 10, cases);
         reached_often("why", tally.why, 10, cases);
         reached_often("text", tally.text, 11, text_cases);
+        period_often(cases);
         rejected_often(cases);
         melt_often(cases);
         frost_often(cases);

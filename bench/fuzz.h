@@ -19,7 +19,7 @@ struct tally {
 };
 extern struct tally tally;
 
-/* Names the case that runs now: "case", "radiation", "grid", "text" or "winter", and its seed. */
+/* Names the case that runs now: "case", "period", "radiation", "grid", "text" or "winter", and its seed. */
 void set_current(const char *kind, uint64_t seed);
 
 /* Prints the difference with the case's seed and ends the program with 1. */
@@ -65,6 +65,9 @@ uint64_t all_fresh(const struct grid_case *g, const struct state_case *s, uint64
 uint64_t all_day(const struct grid_case *g, const struct state_case *s, const struct recharge_day_record *d,
                  uint64_t foretold);
 
+/* The site as a call is handed it. */
+struct recharge_site site_of(const struct grid_case *g);
+
 /* Asks all that say why a cell gets its figures on that day, and holds them to each other. */
 struct explained all_why(const struct grid_case *g, const struct state_case *s, const struct recharge_day_record *d,
                                uint32_t cell);
@@ -72,6 +75,14 @@ struct explained all_why(const struct grid_case *g, const struct state_case *s, 
 /* Fails unless two answers on a cell are the same in all four numbers. */
 void same_reason(uint32_t cell, const char *who, const struct explained *found, const char *what,
                  const struct explained *wanted);
+
+/* ---------------------------------------------------------------- lists of days: fuzz_period.c */
+
+/* Has all that take a list of days work one through, good or damaged, and holds every number that was lent to the plain C's. */
+void run_period(uint64_t seed);
+
+void report_period(void);
+void period_often(uint64_t cases);
 
 /* ---------------------------------------------------------------- accepted days: fuzz_account.c */
 

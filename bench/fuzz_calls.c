@@ -102,7 +102,7 @@ static void same_returned(const char *call, const uint64_t *returned, uint64_t f
         (w)->slice[EVAPOTRANSPIRED], (s)->len[EVAPOTRANSPIRED], (w)->slice[RECHARGED],        \
         (s)->len[RECHARGED], (w)->slice[REJECTED], (s)->len[REJECTED], (w)->totals
 
-static struct recharge_site site_of(const struct grid_case *g)
+struct recharge_site site_of(const struct grid_case *g)
 {
     return (struct recharge_site){.width = g->width, .height = g->height,
                                   .first_growing = g->first, .last_growing = g->last,

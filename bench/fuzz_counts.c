@@ -97,6 +97,7 @@ void report(uint64_t cases, uint64_t text_cases, uint64_t seed, double case_time
     printf("pairs of runs: %" PRIu64 ", of %" PRIu64 " days, %" PRIu64 " of them at or above the first setpoint, with %" PRIu64
            " larger figures, %" PRIu64 " of them rejected recharge that runs on\n",
            tally.pairs, tally.pair_days, tally.frosty_pair_days, tally.wetter_figures, tally.more_runs_on);
+    report_period();
     report_rejected();
     report_melt();
     report_frost();

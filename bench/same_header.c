@@ -8,6 +8,7 @@
 balance_check recharge_check;
 balance_fresh recharge_fresh;
 balance_day recharge_day;
+balance_period recharge_period;
 balance_why recharge_why;
 balance_turc recharge_turc;
 balance_jensen_haise recharge_jensen_haise;
@@ -26,6 +27,7 @@ _Static_assert(sizeof(struct recharge_cover) == RECHARGE_ENTRY * sizeof(uint32_t
 _Static_assert(offsetof(struct recharge_cover, root_depth) == 12 * sizeof(uint32_t), "in the table's order");
 /* Both are longer than 16 bytes, so that no processor's C hands them over in registers (native.sh). */
 _Static_assert(sizeof(struct recharge_site) == 24 && sizeof(struct recharge_day_record) == 28, "by value");
+_Static_assert((int)RECHARGE_DAY == (int)BALANCE_DAY && (int)RECHARGE_SUMS == (int)BALANCE_SUMS, "a day of a list, and a cell's sums");
 _Static_assert((int)RECHARGE_REASON == (int)BALANCE_REASON, "a reason and its depths");
 _Static_assert((int)RECHARGE_GRID_NUMBERS == (int)BALANCE_GRID_NUMBERS && (int)RECHARGE_MEASURE == (int)BALANCE_MEASURE, "a grid's header");
 _Static_assert((int)RECHARGE_GRID_TEXT == (int)BALANCE_GRID_TEXT && (int)RECHARGE_INCHES_TEXT == (int)BALANCE_INCHES_TEXT, "room for a grid");

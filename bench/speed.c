@@ -6,10 +6,9 @@
  * many rounds; after each round every number of the two must be the same. Printed for each grid:
  * the least time of a day of each, the ratio of the least times, and the median of the rounds'
  * ratios. A barrier in each repetition keeps the compiler from moving work out of the loop.
- * Compiled with -DTHIRD=prefix, as table.c is; with -DTHIRD_TEXT=prefix the heaviest texts too. */
-#include "balance.h"
-#include "speed_grids.h"
-#include "text.h"
+ * A year in one call follows (speed_year.c). Compiled with -DTHIRD=prefix, as table.c is; with -DTHIRD_TEXT=prefix
+ * the heaviest texts too. */
+#include "speed.h"
 
 #include <inttypes.h>
 #include <stdio.h>
@@ -17,18 +16,13 @@
 #include <string.h>
 #include <time.h>
 
-#define JOIN_(a, b) a##b
-#define JOIN(a, b) JOIN_(a, b)
-
 balance_fresh JOIN(THIRD, _fresh);
 balance_day JOIN(THIRD, _day);
 #ifdef THIRD_TEXT
 balance_text JOIN(THIRD_TEXT, _text);
 #endif
 
-enum { DAYS = 16, MOST_ROUNDS = 2000, FAST = 0, PROVED = 1 };
-
-static double microseconds(void)
+double microseconds(void)
 {
     struct timespec now;
 
@@ -36,15 +30,10 @@ static double microseconds(void)
     return (double)now.tv_sec * 1e6 + (double)now.tv_nsec / 1e3;
 }
 
-static void barrier(void)
-{
-    __asm__ volatile("" ::: "memory");
-}
-
 /* ---------------------------------------------------------------- days */
 
-/* Rain, drought, frost with snow, thaw: every rule has its turn. The serials are set as they come. */
-static const struct recharge_day_record mixed[DAYS] = {
+/* Rain, drought, frost with snow, thaw: every rule has its turn. */
+const struct recharge_day_record mixed[DAYS] = {
     {0, 100, 0, 500, 600, 700, 900},      {0, 101, 12000, 480, 560, 640, 700},
     {0, 102, 30000, 500, 560, 620, 500},  {0, 103, 2500, 500, 600, 700, 1100},
     {0, 104, 0, 520, 640, 760, 2000},     {0, 105, 0, 560, 680, 800, 2400},
@@ -74,15 +63,6 @@ struct world {
 
 static struct world start, worlds[2];
 
-static struct recharge_site site(void)
-{
-    return (struct recharge_site){.width = width, .height = height, .first_growing = 90, .last_growing = 280,
-                                  .first_setpoint = TEXT_FIRST_SETPOINT, .second_setpoint = TEXT_SECOND_SETPOINT};
-}
-
-#define SETUP                                                                                  \
-    site(), covers, sizeof covers / sizeof covers[0], direction, cells, cover, cells, group,   \
-        cells, water, cells
 #define STATE(w) \
     (w)->soil, cells, (w)->snow, cells, (w)->memory, &(w)->last_serial, &(w)->frost_index
 
@@ -129,6 +109,13 @@ static int by_size(const void *a, const void *b)
     return (x > y) - (x < y);
 }
 
+void print_line(const char *name, const double least[2], double *ratios, int rounds)
+{
+    qsort(ratios, (size_t)rounds, sizeof ratios[0], by_size);
+    printf("%-22s %6" PRIu32 " %12.2f %12.2f %8.2f %8.2f\n", name, cells, least[FAST], least[PROVED],
+           least[PROVED] / least[FAST], ratios[rounds / 2]);
+}
+
 /* Turn and turn about; who begins changes from round to round. */
 static void measure(const char *name, const struct recharge_day_record days[DAYS], int rounds)
 {
@@ -152,9 +139,7 @@ static void measure(const char *name, const struct recharge_day_record days[DAYS
         for (int which = 0; which < 2; which++)
             least[which] = spent[which] < least[which] ? spent[which] : least[which];
     }
-    qsort(ratios, (size_t)rounds, sizeof ratios[0], by_size);
-    printf("%-22s %6" PRIu32 " %12.2f %12.2f %8.2f %8.2f\n", name, cells, least[FAST], least[PROVED],
-           least[PROVED] / least[FAST], ratios[rounds / 2]);
+    print_line(name, least, ratios, rounds);
 }
 
 /* ---------------------------------------------------------------- texts */
@@ -208,9 +193,7 @@ static void measure_text(const char *name, int rounds)
         }
         ratios[n] = spent[PROVED] / spent[FAST];
     }
-    qsort(ratios, (size_t)rounds, sizeof ratios[0], by_size);
-    printf("%-22s %6" PRIu32 " %12.2f %12.2f %8.2f %8.2f\n", name, cells, least[FAST], least[PROVED],
-           least[PROVED] / least[FAST], ratios[rounds / 2]);
+    print_line(name, least, ratios, rounds);
 }
 #endif
 
@@ -233,6 +216,19 @@ int main(int argc, char **argv)
     for (int k = 4; k >= 0; k--) {
         make_landscape(sizes[k][0], sizes[k][1]);
         measure("landscape with lakes", mixed, rounds);
+    }
+    printf("%-22s %6s %12s %12s %8s %8s\n", "a year, in us", "cells", "fast C", "proved", "least", "median");
+    make_closed(64, 64);
+    measure_year("closed cells", rounds / 4 + 1);
+    make_rows(64, 64);
+    measure_year("rows", rounds / 4 + 1);
+    make_serpentine(64, 64);
+    measure_year("serpentine", rounds / 4 + 1);
+    make_landscape(64, 64);
+    measure_year("landscape with lakes", rounds / 4 + 1);
+    if (argc > 2) {
+        printf("%-22s %6s %12s %12s %8s %8s\n", "the command, in us", "cells", "fast C", "sheet", "least", "median");
+        measure_sheet("landscape with lakes", argv[2], "build/speed.folder", "build/speed.printed", rounds / 4 + 1);
     }
 #ifdef THIRD_TEXT
     printf("%-22s %6s %12s %12s %8s %8s\n", "a whole text, in us", "cells", "fast C", "proved", "least", "median");

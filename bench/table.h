@@ -10,6 +10,7 @@ struct implementation {
     balance_check *check;
     balance_fresh *fresh;
     balance_day *day;
+    balance_period *period; /* NULL of one that takes no list of days */
     balance_why *why; /* NULL of one that does not say */
     balance_turc *turc; /* NULL of one that has no estimates from radiation */
     balance_jensen_haise *jensen_haise; /* likewise */

@@ -1,14 +1,16 @@
 /* recharge.h: a groundwater office's daily soil-water balance, proved, for C.
  *
- * A setup check, a fresh state, one day, why a cell got its figures that day, a day's potential evapotranspiration from radiation by
- * two estimates, Arc ASCII grids read and written, and the program's whole text. What they do is the law of documents 01 and 02 (of 02:
- * M-106, frozen ground, M-100, melt in millimetres, M-104, rejected recharge runs on downhill, M-105, why this cell got that figure,
- * M-103, potential evapotranspiration from radiation, and M-101, grids as the mapping desk has them; M-102, a smaller program, moves no
- * figure; docs/RULES.md has the rules in plain words); that they do it, for every input, refused or not, is proved (crates/clib,
- * docs/PROMISES.md). "Test" and "rule" numbers are document 01's.
+ * A setup check, a fresh state, one day, all days of a period, why a cell got its figures on a day, a day's potential
+ * evapotranspiration from radiation by two estimates, Arc ASCII grids read and written, and the program's whole text. What they do
+ * is the law of documents 01 and 02 (of 02: M-106, frozen ground, M-100, melt in millimetres, M-104, rejected recharge runs on
+ * downhill, M-105, why this cell got that figure, M-103, potential evapotranspiration from radiation, and M-101, grids as the
+ * mapping desk has them; M-102, a smaller program, moves no figure; docs/RULES.md has the rules in plain words); that they do it,
+ * for every input, refused or not, is proved (crates/clib, crates/cperiod, docs/PROMISES.md). "Test" and "rule" numbers are
+ * document 01's.
  *
- * Build the library with `rt staticlib clib` and link target/staticlib/libclib.a, for x86-64 Linux. Of the C library it needs
- * memcpy and memset, and nothing else. examples/c has three programs over it.
+ * Build the library with `rt staticlib clib` and link target/staticlib/libclib.a, for x86-64 Linux. recharge_period alone is in an
+ * archive of its own, target/staticlib/libcperiod.a, which `rt staticlib cperiod` builds; a program may link either or both. Of the C
+ * library they need memcpy and memset, and nothing else. examples/c has three programs over libclib.a.
  *
  * Units: a depth is a whole number of 0.0001 inch, a temperature a whole number of tenths of a degree Fahrenheit, a frost
  * index and its setpoints whole numbers of thousandths of a Celsius degree-day. Only what the two estimates from radiation read is
@@ -19,7 +21,8 @@
  * recharge_fresh_state, recharge_one_day and recharge_why_cell, whose arguments are named by their fields; of Arc grids, with a
  * recharge_grid_header, recharge_read_grid, recharge_write_grid and recharge_write_inches. They are inline and only hand the fields on
  * to the raw calls, recharge_check, recharge_fresh, recharge_day, recharge_why, recharge_grid_read, recharge_grid_write and
- * recharge_grid_inches, which are what is proved: there every slice is a pointer and its own count of numbers.
+ * recharge_grid_inches, which are what is proved: there every slice is a pointer and its own count of numbers. recharge_period,
+ * recharge_text and the two estimates have the raw call alone.
  *
  * Pointers: none is NULL, not even for a count of 0, and each points to as many numbers as its count or its declaration says.
  * What a call may write overlaps nothing else that it is handed. That much is the caller's word: nothing can test it. For the two
@@ -34,7 +37,7 @@
  * Tests run in the order of the numbers, and the place is the lowest that fails:
  *
  *   1  width or height 0, or more than 4,096 cells: at 0
- *   2  a slice of one number a cell has another count: at 0
+ *   2  a slice of one number a cell has another count; of recharge_period also a list whose count does not fit: at 0
  *   3  the cover table: at the entry; at 0 for its size; at the later entry for the order of the codes
  *   4  a cell's cover code not in the table, its soil group or available water outside: at the cell; after all of them, of
  *      recharge_why alone, the cell asked about outside the grid: at its number
@@ -48,8 +51,8 @@
  *      count of cells that is not the grid's, or a lent buffer that is too short, at 0
  *  13  a reading for an estimate from radiation outside its limits, or not a number: at 0
  *
- * The setup check and the fresh state use 1 to 6, a day and why 1 to 10, the calls on Arc grids 12 alone, which so comes before all
- * others, and the two estimates 13 alone. What a refused call leaves and writes stands with each call.
+ * The setup check and the fresh state use 1 to 6, a day, a period and why 1 to 10, the calls on Arc grids 12 alone, which so comes
+ * before all others, and the two estimates 13 alone. What a refused call leaves and writes stands with each call.
  */
 #ifndef RECHARGE_H
 #define RECHARGE_H
@@ -67,6 +70,8 @@ enum {
     RECHARGE_ENTRY = 16, /* numbers in one entry of the cover table */
     RECHARGE_MEMORY = 5,
     RECHARGE_TOTALS = 7,
+    RECHARGE_DAY = 7,    /* numbers of a day in a list of days */
+    RECHARGE_SUMS = 5,   /* sums of a cell over a period */
     RECHARGE_REASON = 3, /* the number of a reason and its two depths */
     RECHARGE_FIRST_SETPOINT = 56000, /* the setpoints that the program `balance` uses */
     RECHARGE_SECOND_SETPOINT = 83000,
@@ -227,6 +232,43 @@ uint64_t recharge_day(struct recharge_site site,
                       uint32_t *recharged, size_t recharged_len,
                       uint32_t *rejected, size_t rejected_len,
                       uint64_t totals[RECHARGE_TOTALS], struct recharge_day_record day);
+
+/* Tests 1 to 6, then a list of days from the fresh state, one after another, up to the first that tests 7 to 10 refuse; with the five
+ * results of each cell added up over them, and the totals of each day. The setup is surveyed once for all days. In libcperiod.a.
+ *
+ *   covers .. water
+ *                  the setup, as recharge_check is handed it
+ *   days           RECHARGE_DAY numbers a day: serial, day of the year, gross precipitation, minimum, mean and maximum temperature, and
+ *                  potential evapotranspiration, with the units and the limits of struct recharge_day_record; where that has no sign, a
+ *                  number below 0 is outside. The first serial may be any, every other is one more than the one before. A list of no
+ *                  days is accepted, and leaves the fresh state and sums of 0
+ *   soil, snow     are written, one number a cell: the stores after the days. What they held is not looked at, nor what sums and totals
+ *                  held
+ *   sums           are written, RECHARGE_SUMS x cells numbers, depths over all days: what each cell intercepted, then of each its outflow,
+ *                  what evapotranspired, what recharged, and what was rejected. So cell i's recharge is sums[3 x cells + i]. None can
+ *                  overflow: a day's figure fits 32 bits, and there are 10,000,000 serials
+ *   totals         are written, RECHARGE_TOTALS numbers a day: gross, intercepted, evapotranspired, recharged, rejected in closed
+ *                  depressions, gone from the grid, stored at the day's end
+ *   accepted       is written: how many days were accepted
+ *
+ * Refused by 1 to 6: accepted is 0, and nothing else is changed. Test 2 is also of the lists: days_len is a multiple of RECHARGE_DAY,
+ * totals_len is days_len, and sums_len is RECHARGE_SUMS x cells.
+ * Refused at a day, what comes back is what recharge_day returns of it: 7 at 0, 8 at 0, or 10 at the cell (9 does not come, since each
+ * state is the fresh one or an accepted day's). Then accepted is how many days stand before it, and soil, snow, sums and the first
+ * RECHARGE_TOTALS x accepted of the totals are those of these days; the totals from there on are left as they were.
+ * No memory, last serial or frost index comes back, so that recharge_day cannot go on from here: for more days, hand over a longer list.
+ * It uses less than 160,000 bytes of stack. */
+uint64_t recharge_period(struct recharge_site site,
+                         const uint32_t *covers, size_t covers_len,
+                         const uint32_t *direction, size_t direction_len,
+                         const uint32_t *cover, size_t cover_len,
+                         const uint32_t *group, size_t group_len,
+                         const uint32_t *water, size_t water_len,
+                         const int32_t *days, size_t days_len,
+                         uint32_t *soil, size_t soil_len,
+                         uint32_t *snow, size_t snow_len,
+                         uint64_t *sums, size_t sums_len,
+                         uint64_t *totals, size_t totals_len, uint64_t *accepted);
 
 /* Tests 1 to 10, then why a cell gets its figures on that day. The state is the one before the day, as recharge_day is lent it, so
  * ask before that call: it leaves the state after the day.

@@ -36,7 +36,7 @@ pub struct DayNumbers {
     pub potential: u32,
 }
 
-pub(crate) fn grid_of(site: Site) -> Grid
+pub fn grid_of(site: Site) -> Grid
     ensures { λ r. ⌜ gridAs r ≡ gridFrom site ⌝ }
 {
     Grid {
@@ -45,7 +45,7 @@ pub(crate) fn grid_of(site: Site) -> Grid
     }
 }
 
-pub(crate) fn climate_of(site: Site) -> Climate
+pub fn climate_of(site: Site) -> Climate
     ensures { λ r. ⌜ climateAs r ≡ climateFrom site ⌝ }
 {
     let season = Season {

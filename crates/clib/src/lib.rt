@@ -16,6 +16,8 @@ pub use estimates::recharge_jensen_haise;
 pub use estimates::recharge_turc;
 pub use given::DayNumbers;
 pub use given::Site;
+pub use given::climate_of;
+pub use given::grid_of;
 pub use maps::recharge_grid_inches;
 pub use maps::recharge_grid_read;
 pub use maps::recharge_grid_write;
