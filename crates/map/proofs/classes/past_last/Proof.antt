@@ -1,0 +1,63 @@
+-- `classes::past_last` is safe and ends: the cells that are left fall.
+use Prim.Native.Nat.{_-_, _≤_}
+use lib.ListN.{length}
+use borrow.Author.Needs.{needs}
+use Rattle.map.proofs.classes.past_last.Statement.{statement}
+use Rattle.map.proofs.classes.past_last.Tie as tie
+
+abbrev Inv-loop : tie.InvT-loop
+Inv-loop marks direction recharged first step past₀ i₀ past i = i ≤ length marks
+
+abbrev μ-loop : tie.MeasureT-loop
+μ-loop marks direction recharged first step past₀ i₀ past i = length marks - i
+
+loop-holds : tie.Need-loop-holds Inv-loop μ-loop
+loop-holds c = search needs
+
+shared-slice-read-is-past : tie.Need-shared-slice-read-is-past Inv-loop μ-loop
+shared-slice-read-is-past c = search needs
+
+number-at-requires : tie.Need-number-at-requires Inv-loop μ-loop
+number-at-requires c κs = search needs
+
+sum-at-requires : tie.Need-sum-at-requires Inv-loop μ-loop
+sum-at-requires c κs = search needs
+
+is-past-requires : tie.Need-is-past-requires Inv-loop μ-loop
+is-past-requires c κs = search needs
+
+one-if-requires : tie.Need-one-if-requires Inv-loop μ-loop
+one-if-requires c κs = search needs
+
+plus-requires : tie.Need-plus-requires Inv-loop μ-loop
+plus-requires c κs = search needs
+
+add-i : tie.Need-add-i Inv-loop μ-loop
+add-i c = search needs
+
+loop-less : tie.Need-loop-less Inv-loop μ-loop
+loop-less c = search needs
+
+loop-again : tie.Need-loop-again Inv-loop μ-loop
+loop-again c = search needs
+
+returns : tie.Need-returns Inv-loop μ-loop
+returns c = search needs
+
+pub past-last-spec : {M : Type 1} → statement M
+past-last-spec =
+    tie.close
+    (tie.spec
+    Inv-loop
+    μ-loop
+    loop-holds
+    shared-slice-read-is-past
+    number-at-requires
+    sum-at-requires
+    is-past-requires
+    one-if-requires
+    plus-requires
+    add-i
+    loop-less
+    loop-again
+    returns)
