@@ -22,3 +22,15 @@ explain_grid() { # AWK PLACE
     od -An -v -tu1 |
         LC_ALL=C $1 -v place="$2" -f "$root/tools/words.awk" -f "$root/tools/limits.awk" -f "$root/tools/cells.awk" -f "$root/tools/explain_grid.awk"
 }
+
+# Explains the refusal of a file by sheet. FOLDER ends in a slash; LINE is the line of FILE that the program named, or 0; a NUMBER of 0 stands for the form of the
+# covers, which has none.
+explain_sheet() { # AWK FOLDER FILE NUMBER PLACE LINE
+    # shellcheck disable=SC2086
+    for each in direction.asc cover.asc group.asc water.asc covers.txt weather.txt; do
+        echo "file $each"
+        [ ! -f "$2$each" ] || od -An -v -tu1 < "$2$each"
+    done |
+        LC_ALL=C $1 -v file="$3" -v number="$4" -v place="$5" -v said="$6" -f "$root/tools/words.awk" -f "$root/tools/limits.awk" -f "$root/tools/cells.awk" \
+            -f "$root/tools/explain_sheet.awk" -f "$root/tools/explain.awk"
+}
