@@ -1,14 +1,14 @@
 // The tests of a day, in the order of the numbers: 1 and 2 before the survey's, 7 to 10 after them.
 ghost use Rattle.std.specs.Prelude.{◌≡◌};
 ghost use Rattle.paper.specs.Refusals.{verdict};
-ghost use Rattle.records.specs.Grids.{gridAs};
-ghost use Rattle.records.specs.Past.{pastAs};
-ghost use Rattle.records.specs.Days.{dayAs};
-ghost use Rattle.records.specs.Verdicts.{verdictIn};
-ghost use Rattle.weather.specs.Today.{todayAs};
-ghost use Rattle.covers.specs.Plots.{plotsOf};
-ghost use Rattle.stores.specs.States.{lentTests};
-ghost use Rattle.admission.specs.Tests.{dayLengths, laterTests};
+ghost use Rattle.records.specs.Grids.{grid_as};
+ghost use Rattle.records.specs.Past.{past_as};
+ghost use Rattle.records.specs.Days.{day_as};
+ghost use Rattle.records.specs.Verdicts.{verdict_in};
+ghost use Rattle.weather.specs.Today.{today_as};
+ghost use Rattle.covers.specs.Plots.{plots_of};
+ghost use Rattle.stores.specs.States.{lent_tests};
+ghost use Rattle.admission.specs.Tests.{day_lengths, later_tests};
 
 use covers::{PLOT_ROOM, lay_plots};
 use records::{DayRecord, Grid, MOST_CELLS, Past, Refusal, Verdict, results_each, stores_each};
@@ -16,7 +16,7 @@ use stores::{snow_verdict, state_verdict};
 use weather::Today;
 
 // The lengths of the lent results.
-#[derive(Drop)]
+#[derive(Clone, Copy)]
 pub struct Lengths {
     pub intercepted: usize,
     pub outflow: usize,
@@ -27,7 +27,7 @@ pub struct Lengths {
 
 // Tests 1 and 2 of the stores and the results: the survey tests the setup's own slices.
 pub fn lent_verdict(grid: Grid, soil: usize, snow: usize, results: Lengths) -> Verdict
-    ensures { result ≡ verdictIn (verdict (lentTests (gridAs grid) (dayLengths soil snow results))) }
+    ensures { result ≡ verdict_in (verdict (lent_tests (grid_as grid) (day_lengths soil snow results))) }
 {
     if !grid.fits() {
         return Verdict::Refused(Refusal::Grid);
@@ -62,9 +62,9 @@ pub fn day_verdict(
     day: DayRecord,
     plots: &mut [u32; PLOT_ROOM],
 ) -> Verdict
-    ensures { (plots.new ≡ plotsOf (todayAs today) covers.now plots.old)
-        × (result ≡ verdictIn (verdict (laterTests (gridAs grid) covers.now slots.now available.now soil.now snow.now
-        (pastAs past) (dayAs day) plots.new))) }
+    ensures { (plots.new ≡ plots_of (today_as today) covers.now plots.old)
+        × (result ≡ verdict_in (verdict (later_tests (grid_as grid) covers.now slots.now available.now soil.now snow.now
+        (past_as past) (day_as day) plots.new))) }
 {
     lay_plots(today, covers, plots);
     let last = past.last;

@@ -1,5 +1,7 @@
 // The program `balance`: standard input's bytes, their text by `text::balance_text`, and the text to standard output. Where the input can't be read
 // nothing is printed, so that no `end` line stands for half an input; a failed read or write is said on standard error.
+#![tactic(auto)]
+
 ghost use Rattle.std.specs.Prelude.{◌≡◌, length};
 
 use intake::Input;

@@ -9,14 +9,14 @@ use lib.Dec.{eqb, leb}
 use lib.ListN.{length}
 use borrow.Author.Tests.{leb-true}
 use Rattle.theory.specs.Lowest.{Found, at, nowhere, lowest}
-use Rattle.theory.proofs.Cases.{byCases, and_right, cond-true, cond-false}
-use Rattle.theory.proofs.LowestLaws.{lowest-at}
-use Rattle.paper.specs.Covers.{entries, sizeFits}
-use Rattle.paper.specs.Setup.{Setup, Grid, cells_of, gridFits}
+use Rattle.theory.proofs.Cases.{by_cases, and_right, cond_true, cond_false}
+use Rattle.theory.proofs.LowestLaws.{lowest_at}
+use Rattle.paper.specs.Covers.{entries, size_fits}
+use Rattle.paper.specs.Setup.{Setup, Grid, cells_of, grid_fits}
 use Rattle.paper.specs.State.{State, Day}
-use Rattle.paper.specs.Refusals.{grid, place_of, verdictPlace, Test, verdict, single, judged, coverPlaces, setupTests, mapTests, dayTests}
+use Rattle.paper.specs.Refusals.{grid, place_of, verdict_place, Test, verdict, single, judged, cover_places, setup_tests, map_tests, day_tests}
 use Rattle.paper.specs.Day as paper
-use Rattle.paper.proofs.RefusalLaws.{fail-single, pass-single}
+use Rattle.paper.proofs.RefusalLaws.{fail_single, pass_single}
 use Rattle.clib.specs.Narrow.{narrow}
 
 pub near_fits : {place : ℕ} → place ≤ 4096 → place < narrow
@@ -27,40 +27,40 @@ unfoldable Near : List Test → Type 0
 Near [] = Unit {0}
 Near (t ∷ ts) = ((i : ℕ) → i < t.places → place_of (t.called i) ≤ 4096) × Near ts
 
-near : (ts : List Test) → Near ts → verdictPlace (verdict ts) ≤ 4096
-unfolding Near verdict verdictPlace
+near : (ts : List Test) → Near ts → verdict_place (verdict ts) ≤ 4096
+unfolding Near verdict verdict_place
 near [] n = omega arith
 near (t ∷ ts) n = go (lowest t.places t.fails) refl (near ts n.1)
   where
-    go : (f : Found) → lowest t.places t.fails ≡ f → verdictPlace (verdict ts) ≤ 4096
-        → verdictPlace (judged f t.called (verdict ts)) ≤ 4096
-    go (at i) e rest = unfold judged verdictPlace in (n.0 i (lowest-at _ _ e).0)
+    go : (f : Found) → lowest t.places t.fails ≡ f → verdict_place (verdict ts) ≤ 4096
+        → verdict_place (judged f t.called (verdict ts)) ≤ 4096
+    go (at i) e rest = unfold judged verdict_place in (n.0 i (lowest_at _ _ e).0)
     go nowhere e rest = unfold judged in rest
 
 -- with the grid's test before them
-after-grid : (g : Grid) (ts : List Test) → (cells_of g ≤ 4096 → Near ts) → verdictPlace (verdict (single (gridFits g) grid ∷ ts)) ≤ 4096
-unfolding gridFits verdictPlace place_of
-after-grid g ts n =
-    byCases (gridFits g)
-    (λ e. rw (pass-single ts (gridFits g) grid e) (near ts (n (leb-true _ _ (and_right (leb 1 g.width && leb 1 g.height) _ e)))))
-    (λ e. rw (fail-single ts (gridFits g) grid e) (omega arith))
+after_grid : (g : Grid) (ts : List Test) → (cells_of g ≤ 4096 → Near ts) → verdict_place (verdict (single (grid_fits g) grid ∷ ts)) ≤ 4096
+unfolding grid_fits verdict_place place_of
+after_grid g ts n =
+    by_cases (grid_fits g)
+    (λ e. rw (pass_single ts (grid_fits g) grid e) (near ts (n (leb-true _ _ (and_right (leb 1 g.width && leb 1 g.height) _ e)))))
+    (λ e. rw (fail_single ts (grid_fits g) grid e) (omega arith))
 
-few-entries : (covers : List ℕ) → coverPlaces covers ≤ 64
-unfolding coverPlaces sizeFits
-few-entries covers =
-    byCases (sizeFits covers)
-    (λ e. rw (cond-true (sizeFits covers) e) (leb-true _ _ (and_right (leb 1 (entries covers)) _ (and_right (eqb (length covers % 16) 0) _ e))))
-    (λ e. rw (cond-false (sizeFits covers) e) (omega arith))
+few_entries : (covers : List ℕ) → cover_places covers ≤ 64
+unfolding cover_places size_fits
+few_entries covers =
+    by_cases (size_fits covers)
+    (λ e. rw (cond_true (size_fits covers) e) (leb-true _ _ (and_right (leb 1 (entries covers)) _ (and_right (eqb (length covers % 16) 0) _ e))))
+    (λ e. rw (cond_false (size_fits covers) e) (omega arith))
 
 module _ (s : Setup) (lengths : List ℕ) where
-  pub setup-near : verdictPlace (verdict (setupTests s lengths)) ≤ 4096
-  unfolding setupTests mapTests single Near place_of
-  setup-near =
-      after-grid s.grid _
-      (λ h. (λ i k. omega arith, (λ i k. omega (arith, few-entries s.covers), (λ i k. omega arith, (λ i k. omega arith, (λ i k. omega arith, tt))))))
+  pub setup_near : verdict_place (verdict (setup_tests s lengths)) ≤ 4096
+  unfolding setup_tests map_tests single Near place_of
+  setup_near =
+      after_grid s.grid _
+      (λ h. (λ i k. omega arith, (λ i k. omega (arith, few_entries s.covers), (λ i k. omega arith, (λ i k. omega arith, (λ i k. omega arith, tt))))))
 
-  pub day-near : (st : State) (d : Day) → verdictPlace (verdict (setupTests s lengths ++ dayTests s st d)) ≤ 4096
-  unfolding setupTests mapTests dayTests single Near place_of
-  day-near st d =
-      after-grid s.grid _
-      (λ h. (λ i k. omega arith, (λ i k. omega (arith, few-entries s.covers), (λ i k. omega arith, (λ i k. omega arith, (λ i k. omega arith, (λ i k. omega arith, (λ i k. omega arith, (λ i k. omega arith, (λ i k. omega arith, tt))))))))))
+  pub day_near : (st : State) (d : Day) → verdict_place (verdict (setup_tests s lengths ++ day_tests s st d)) ≤ 4096
+  unfolding setup_tests map_tests day_tests single Near place_of
+  day_near st d =
+      after_grid s.grid _
+      (λ h. (λ i k. omega arith, (λ i k. omega (arith, few_entries s.covers), (λ i k. omega arith, (λ i k. omega arith, (λ i k. omega arith, (λ i k. omega arith, (λ i k. omega arith, (λ i k. omega arith, (λ i k. omega arith, tt))))))))))

@@ -2,20 +2,20 @@
 use mathlib.Core.Path.{◌≡◌}
 use Prim.Native.Nat.{◌/◌, ◌%◌, ◌<◌}
 use native.Mathlib.Omega.{arith}
-use Rattle.paper.specs.Refusals.{Verdict, verdictNumber, verdictPlace}
-use Rattle.paper.proofs.RefusalLaws.{verdict-only}
+use Rattle.paper.specs.Refusals.{Verdict, verdict_number, verdict_place}
+use Rattle.paper.proofs.RefusalLaws.{verdict_only}
 use Rattle.clib.specs.Narrow.{narrow}
 use Rattle.clib.specs.Numbers.{returned}
 
-module _ (v : Verdict) (near : verdictPlace v < narrow) where
-  pub number-back : returned v / 4294967296 ≡ verdictNumber v
+module _ (v : Verdict) (near : verdict_place v < narrow) where
+  pub number_back : returned v / 4294967296 ≡ verdict_number v
   unfolding returned
-  number-back = omega (arith, near)
+  number_back = omega (arith, near)
 
-  pub place-back : returned v % 4294967296 ≡ verdictPlace v
+  pub place_back : returned v % 4294967296 ≡ verdict_place v
   unfolding returned
-  place-back = omega (arith, near)
+  place_back = omega (arith, near)
 
-pub returned-only : (v u : Verdict) → verdictPlace v < narrow → verdictPlace u < narrow → returned v ≡ returned u → v ≡ u
+pub returned_only : (v u : Verdict) → verdict_place v < narrow → verdict_place u < narrow → returned v ≡ returned u → v ≡ u
 unfolding returned
-returned-only v u near close e = verdict-only v u (omega (arith, near, close, e)) (omega (arith, near, close, e))
+returned_only v u near close e = verdict_only v u (omega (arith, near, close, e)) (omega (arith, near, close, e))

@@ -6,7 +6,7 @@ use Prim.Native.Nat.{ℕ}
 use lib.Dec.{ltb}
 use lib.ListN.{length}
 use Rattle.text.specs.Program.{printed}
-use Rattle.text.specs.Run.{Printed, mostText}
+use Rattle.text.specs.Run.{Printed, most_text}
 use Rattle.text.specs.declared.program.Written.{Written}
 use Rattle.text.specs.declared.program.Written.TheVariants.{NoRoom, Bytes}
 use Rattle.clib.specs.Texts.{Told}
@@ -21,4 +21,4 @@ either true n = refl
 either false n = refl
 
 pub told : (input before after : List ℕ) (w : Written) (r : ℕ) → r ≡ counted w → Printed input before after w → Told input before after r
-told input before after w r e p = record { count = e ∙ ap counted p.answer ∙ either (ltb (length before) mostText) (length (printed input)); buffer = p.buffer; short = p.short }
+told input before after w r e p = record { count = e ∙ ap counted p.answer ∙ either (ltb (length before) most_text) (length (printed input)); buffer = p.buffer; short = p.short }

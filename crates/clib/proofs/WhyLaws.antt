@@ -2,48 +2,48 @@
 use mathlib.Core.Path.{◌≡◌, refl, ap, ◌∙◌}
 use Prim.Native.Nat.{ℕ, ◌<◌}
 use lib.Dec.{ltb}
-use Rattle.theory.proofs.Cases.{byCases}
+use Rattle.theory.proofs.Cases.{by_cases}
 use Rattle.paper.specs.Limits.{within}
 use Rattle.paper.specs.Setup.{Setup, cells}
 use Rattle.paper.specs.State.{State, Day}
-use Rattle.paper.specs.Refusals.{Verdict, accepted, refused, place_of, verdictNumber, verdictPlace, verdict}
-use Rattle.paper.specs.Reasons.{Facts, Reason, openWater, underSnow, noWater, belowPotential, roomForAll, aboveLargest, allRecharged, reasonOf, factsAt, Explanation, withDepths, explained, explainedAs, whyTests, whyOf}
-use Rattle.reasons.specs.Whys.{whyVerdict}
+use Rattle.paper.specs.Refusals.{Verdict, accepted, refused, place_of, verdict_number, verdict_place, verdict}
+use Rattle.paper.specs.Reasons.{Facts, Reason, open_water, under_snow, no_water, below_potential, room_for_all, above_largest, all_recharged, reason_of, facts_at, Explanation, with_depths, explained, explained_as, why_tests, why_of}
+use Rattle.reasons.specs.Whys.{why_verdict}
 use Rattle.reasons.specs.Asked.{asked_of}
-use Rattle.reasons.proofs.AskingLaws.{asked-inside, asked-early, asked-outside, tests-asked}
+use Rattle.reasons.proofs.AskingLaws.{asked_inside, asked_early, asked_outside, tests_asked}
 use Rattle.clib.specs.Narrow.{narrow}
-use Rattle.clib.specs.Whys.{reasonGiven}
-use Rattle.clib.proofs.PlaceLaws.{day-near, near_fits}
+use Rattle.clib.specs.Whys.{reason_given}
+use Rattle.clib.proofs.PlaceLaws.{day_near, near_fits}
 
-asked-near : (n cell : ℕ) (v : Verdict) → cell < narrow → verdictPlace v < narrow → verdictPlace (asked_of n cell v) < narrow
-unfolding verdictPlace place_of
-asked-near n cell v small near =
-    byCases (ltb cell n) (λ there. rw (asked-inside n cell v there) near)
-    (λ out. byCases (within 1 4 (verdictNumber v)) (λ early. rw (asked-early n cell v early) near) (λ late. rw (asked-outside n cell v out late) small))
+asked_near : (n cell : ℕ) (v : Verdict) → cell < narrow → verdict_place v < narrow → verdict_place (asked_of n cell v) < narrow
+unfolding verdict_place place_of
+asked_near n cell v small near =
+    by_cases (ltb cell n) (λ there. rw (asked_inside n cell v there) near)
+    (λ out. by_cases (within 1 4 (verdict_number v)) (λ early. rw (asked_early n cell v early) near) (λ late. rw (asked_outside n cell v out late) small))
 
 -- a reason is no refusal
-no-refusal : (f : Facts) (r : Reason) → whyVerdict (withDepths f r) ≡ accepted
-unfolding whyVerdict withDepths
-no-refusal f openWater = refl
-no-refusal f underSnow = refl
-no-refusal f noWater = refl
-no-refusal f belowPotential = refl
-no-refusal f roomForAll = refl
-no-refusal f aboveLargest = refl
-no-refusal f allRecharged = refl
+no_refusal : (f : Facts) (r : Reason) → why_verdict (with_depths f r) ≡ accepted
+unfolding why_verdict with_depths
+no_refusal f open_water = refl
+no_refusal f under_snow = refl
+no_refusal f no_water = refl
+no_refusal f below_potential = refl
+no_refusal f room_for_all = refl
+no_refusal f above_largest = refl
+no_refusal f all_recharged = refl
 
-verdict-back : (f : Facts) (v : Verdict) → whyVerdict (explainedAs f v) ≡ v
-unfolding explainedAs explained
-verdict-back f accepted = no-refusal f (reasonOf f)
-verdict-back f (refused why) = unfold whyVerdict in refl
+verdict_back : (f : Facts) (v : Verdict) → why_verdict (explained_as f v) ≡ v
+unfolding explained_as explained
+verdict_back f accepted = no_refusal f (reason_of f)
+verdict_back f (refused why) = unfold why_verdict in refl
 
-pub why-near : (s : Setup) (st : State) (d : Day) (i : ℕ) → i < narrow → verdictPlace (whyVerdict (whyOf s st d i)) < narrow
-unfolding whyOf
-why-near s st d i small =
-    rw (verdict-back (factsAt s st d i) (verdict (whyTests s st d i)) ∙ tests-asked s st d i)
-    (asked-near (cells s) i _ small (near_fits (day-near s _ st d)))
+pub why_near : (s : Setup) (st : State) (d : Day) (i : ℕ) → i < narrow → verdict_place (why_verdict (why_of s st d i)) < narrow
+unfolding why_of
+why_near s st d i small =
+    rw (verdict_back (facts_at s st d i) (verdict (why_tests s st d i)) ∙ tests_asked s st d i)
+    (asked_near (cells s) i _ small (near_fits (day_near s _ st d)))
 
 -- what the library is handed is what C handed over
-pub why-handed : (s t : Setup) (st u : State) (d e : Day) (i j : ℕ) → t ≡ s → u ≡ st → e ≡ d → j ≡ i → (why : Explanation) → why ≡ whyOf t u e j
-    → reasonGiven why ≡ reasonGiven (whyOf s st d i)
-why-handed s t st u d e i j same held day cell why is = ap reasonGiven (is ∙ (λ k. whyOf (same k) (held k) (day k) (cell k)))
+pub why_handed : (s t : Setup) (st u : State) (d e : Day) (i j : ℕ) → t ≡ s → u ≡ st → e ≡ d → j ≡ i → (why : Explanation) → why ≡ why_of t u e j
+    → reason_given why ≡ reason_given (why_of s st d i)
+why_handed s t st u d e i j same held day cell why is = ap reason_given (is ∙ (λ k. why_of (same k) (held k) (day k) (cell k)))

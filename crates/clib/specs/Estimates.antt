@@ -3,8 +3,8 @@ use Rattle.std.specs.Prelude.{ℕ, Float}
 use Rattle.paper.specs.Radiation as paper
 use Rattle.clib.specs.Numbers.{numbered}
 
-abbrev pub weatherFrom : Float → paper.Estimate → paper.Weather
-weatherFrom mean estimate = record { mean = mean; estimate = estimate }
+abbrev pub weather_from : Float → paper.Estimate → paper.Weather
+weather_from mean estimate = record { mean = mean; estimate = estimate }
 
 pub record Given : Type 0 where
   pub number : ℕ
@@ -13,5 +13,5 @@ pub record Given : Type 0 where
 abbrev pub estimate : ℕ → ℕ → Given
 estimate number potential = record { number = number; potential = potential }
 
-unfoldable pub estimateGiven : paper.Estimated → Given
-estimateGiven e = estimate (numbered (paper.estimateNumber e) (paper.estimatePlace e)) (paper.estimateUnits e)
+unfoldable pub estimate_given : paper.Estimated → Given
+estimate_given e = estimate (numbered (paper.estimate_number e) (paper.estimate_place e)) (paper.estimate_units e)

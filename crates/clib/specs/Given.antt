@@ -5,22 +5,22 @@ use Rattle.paper.specs.State.{Day}
 use Rattle.clib.specs.declared.given.Site.{Site}
 use Rattle.clib.specs.declared.given.DayNumbers.{DayNumbers}
 
-abbrev pub gridFrom : Site → paper.Grid
-gridFrom s = record { width = s.width; height = s.height }
+abbrev pub grid_from : Site → paper.Grid
+grid_from s = record { width = s.width; height = s.height }
 
-abbrev pub climateFrom : Site → paper.Climate
-climateFrom s =
+abbrev pub climate_from : Site → paper.Climate
+climate_from s =
     record {
       season = record { first = s.first_growing; last = s.last_growing };
       setpoints = record { first = s.first_setpoint; second = s.second_setpoint };
     }
 
 -- with the lent cover table, directions, cover codes, groups and available water
-abbrev pub setupFrom : Site → List ℕ → List ℕ → List ℕ → List ℕ → List ℕ → paper.Setup
-setupFrom s covers direction cover group available =
+abbrev pub setup_from : Site → List ℕ → List ℕ → List ℕ → List ℕ → List ℕ → paper.Setup
+setup_from s covers direction cover group available =
     record {
-      grid = gridFrom s;
-      climate = climateFrom s;
+      grid = grid_from s;
+      climate = climate_from s;
       covers = covers;
       direction = direction;
       cover = cover;
@@ -28,11 +28,11 @@ setupFrom s covers direction cover group available =
       available = available;
     }
 
-abbrev pub dayFrom : DayNumbers → Day
-dayFrom d =
+abbrev pub day_from : DayNumbers → Day
+day_from d =
     record {
       serial = d.serial;
-      dayOfYear = d.day_of_year;
+      day_of_year = d.day_of_year;
       gross = d.gross;
       minimum = d.minimum;
       mean = d.mean;

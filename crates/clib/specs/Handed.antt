@@ -3,7 +3,7 @@ use Rattle.std.specs.Prelude.{List, ℕ}
 use Rattle.paper.specs.Setup.{Setup}
 use Rattle.paper.specs.State.{State, Day}
 use Rattle.paper.specs.Day as paper
-use Rattle.clib.specs.Numbers.{returned, memoryList, lastNumber, pastFrom, totalsList}
+use Rattle.clib.specs.Numbers.{returned, memory_list, last_number, past_from, totals_list}
 
 -- a state as it is lent
 pub record Stores : Type 0 where
@@ -13,14 +13,14 @@ pub record Stores : Type 0 where
   pub last : ℕ
   pub frost : ℕ
 
-abbrev pub storesFrom : List ℕ → List ℕ → List ℕ → ℕ → ℕ → Stores
-storesFrom soil snow memory last frost = record { soil = soil; snow = snow; memory = memory; last = last; frost = frost }
+abbrev pub stores_from : List ℕ → List ℕ → List ℕ → ℕ → ℕ → Stores
+stores_from soil snow memory last frost = record { soil = soil; snow = snow; memory = memory; last = last; frost = frost }
 
-unfoldable pub stateFrom : Stores → State
-stateFrom l = record { soil = l.soil; snow = l.snow; past = pastFrom l.memory l.last l.frost }
+unfoldable pub state_from : Stores → State
+state_from l = record { soil = l.soil; snow = l.snow; past = past_from l.memory l.last l.frost }
 
 unfoldable pub stores_of : State → Stores
-stores_of st = storesFrom st.soil st.snow (memoryList st.past.memory) (lastNumber st.past.last) st.past.frost
+stores_of st = stores_from st.soil st.snow (memory_list st.past.memory) (last_number st.past.last) st.past.frost
 
 -- what a fresh state's call hands back
 pub record Begun : Type 0 where
@@ -30,11 +30,11 @@ pub record Begun : Type 0 where
 abbrev pub begun : ℕ → Stores → Begun
 begun number stores = record { number = number; stores = stores }
 
-unfoldable pub begunAs : paper.Fresh → Begun
-begunAs o = begun (returned o.verdict) (stores_of o.state)
+unfoldable pub begun_as : paper.Fresh → Begun
+begun_as o = begun (returned o.verdict) (stores_of o.state)
 
-unfoldable pub freshGives : Setup → List ℕ → List ℕ → Begun
-freshGives s soil snow = begunAs (paper.fresh_of s soil snow)
+unfoldable pub fresh_gives : Setup → List ℕ → List ℕ → Begun
+fresh_gives s soil snow = begun_as (paper.fresh_of s soil snow)
 
 -- what a day's call hands back
 pub record Handed : Type 0 where
@@ -43,8 +43,8 @@ pub record Handed : Type 0 where
   pub results : paper.Results
   pub totals : List ℕ
 
-abbrev pub resultsFrom : List ℕ → List ℕ → List ℕ → List ℕ → List ℕ → paper.Results
-resultsFrom intercepted outflow evapotranspired recharged rejected =
+abbrev pub results_from : List ℕ → List ℕ → List ℕ → List ℕ → List ℕ → paper.Results
+results_from intercepted outflow evapotranspired recharged rejected =
     record {
       intercepted = intercepted;
       outflow = outflow;
@@ -57,9 +57,9 @@ abbrev pub handed : ℕ → Stores → paper.Results → List ℕ → Handed
 handed number stores results totals =
     record { number = number; stores = stores; results = results; totals = totals }
 
-unfoldable pub handedAs : paper.Outcome → Handed
-handedAs o =
-    handed (returned o.verdict) (stores_of o.state) o.results (totalsList o.totals)
+unfoldable pub handed_as : paper.Outcome → Handed
+handed_as o =
+    handed (returned o.verdict) (stores_of o.state) o.results (totals_list o.totals)
 
-unfoldable pub dayGives : Setup → Stores → paper.Results → Day → Handed
-dayGives s l r d = handedAs (paper.dayOf s (stateFrom l) r d)
+unfoldable pub day_gives : Setup → Stores → paper.Results → Day → Handed
+day_gives s l r d = handed_as (paper.day_of s (state_from l) r d)

@@ -1,7 +1,7 @@
 -- What C hands over and gets as the paper's verdict, past and totals.
 use Rattle.std.specs.Prelude.{cond, List, [], ◌∷◌, ℕ, ◌+◌, ◌*◌, eqb, get_or}
 use Rattle.paper.specs.State.{Memory, Last, none, serial, Past}
-use Rattle.paper.specs.Refusals.{Verdict, verdictNumber, verdictPlace}
+use Rattle.paper.specs.Refusals.{Verdict, verdict_number, verdict_place}
 use Rattle.paper.specs.Day.{Totals}
 
 -- 0 where a call accepts, else number × 2^32 + place
@@ -9,11 +9,11 @@ abbrev pub numbered : ℕ → ℕ → ℕ
 numbered number place = number * 4294967296 + place
 
 unfoldable pub returned : Verdict → ℕ
-returned v = numbered (verdictNumber v) (verdictPlace v)
+returned v = numbered (verdict_number v) (verdict_place v)
 
 -- five figures, oldest first
-unfoldable pub memoryFrom : List ℕ → Memory
-memoryFrom l =
+unfoldable pub memory_from : List ℕ → Memory
+memory_from l =
     record {
       oldest = get_or l 0 0;
       fourth = get_or l 1 0;
@@ -22,27 +22,27 @@ memoryFrom l =
       yesterday = get_or l 4 0;
     }
 
-unfoldable pub memoryList : Memory → List ℕ
-memoryList m = m.oldest ∷ m.fourth ∷ m.third ∷ m.second ∷ m.yesterday ∷ []
+unfoldable pub memory_list : Memory → List ℕ
+memory_list m = m.oldest ∷ m.fourth ∷ m.third ∷ m.second ∷ m.yesterday ∷ []
 
 -- the largest number of 32 bits, which is no serial, stands for none
-abbrev pub noSerial : ℕ
-noSerial = 4294967295
+abbrev pub no_serial : ℕ
+no_serial = 4294967295
 
-unfoldable pub lastFrom : ℕ → Last
-lastFrom n = cond (eqb n noSerial) none (serial n)
+unfoldable pub last_from : ℕ → Last
+last_from n = cond (eqb n no_serial) none (serial n)
 
-unfoldable pub lastNumber : Last → ℕ
-lastNumber none = noSerial
-lastNumber (serial n) = n
+unfoldable pub last_number : Last → ℕ
+last_number none = no_serial
+last_number (serial n) = n
 
 -- what a state has besides its stores
-unfoldable pub pastFrom : List ℕ → ℕ → ℕ → Past
-pastFrom memory last frost = record { memory = memoryFrom memory; last = lastFrom last; frost = frost }
+unfoldable pub past_from : List ℕ → ℕ → ℕ → Past
+past_from memory last frost = record { memory = memory_from memory; last = last_from last; frost = frost }
 
 -- in the paper's order
-unfoldable pub totalsList : Totals → List ℕ
-totalsList t =
+unfoldable pub totals_list : Totals → List ℕ
+totals_list t =
     t.gross
     ∷ t.intercepted
     ∷ t.evapotranspired

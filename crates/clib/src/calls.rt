@@ -1,9 +1,9 @@
 // The three calls for C.
 ghost use Rattle.std.specs.Prelude.{◌≡◌};
-ghost use Rattle.paper.specs.Day.{checkOf};
+ghost use Rattle.paper.specs.Day.{check_of};
 ghost use Rattle.clib.specs.Numbers.{returned};
-ghost use Rattle.clib.specs.Given.{setupFrom, dayFrom};
-ghost use Rattle.clib.specs.Handed.{storesFrom, resultsFrom, begun, freshGives, handed, dayGives};
+ghost use Rattle.clib.specs.Given.{setup_from, day_from};
+ghost use Rattle.clib.specs.Handed.{stores_from, results_from, begun, fresh_gives, handed, day_gives};
 
 use crate::given::{DayNumbers, Site, climate_of, grid_of, record_of};
 use crate::numbers::returned_as;
@@ -18,8 +18,8 @@ pub extern "C" fn recharge_check(
     group: &[u32],
     available: &[u32],
 ) -> u64
-    ensures { result ≡ returned (checkOf
-        (setupFrom site covers.now direction.now cover.now group.now available.now)) }
+    ensures { result ≡ returned (check_of
+        (setup_from site covers.now direction.now cover.now group.now available.now)) }
 {
     let grid = grid_of(site);
     let climate = climate_of(site);
@@ -40,8 +40,8 @@ pub extern "C" fn recharge_fresh(
     last_serial: &mut u32,
     frost_index: &mut u32,
 ) -> u64
-    ensures { begun result (storesFrom soil.new snow.new memory.new last_serial.new frost_index.new)
-        ≡ freshGives (setupFrom site covers.now direction.now cover.now group.now available.now)
+    ensures { begun result (stores_from soil.new snow.new memory.new last_serial.new frost_index.new)
+        ≡ fresh_gives (setup_from site covers.now direction.now cover.now group.now available.now)
         soil.old snow.old }
 {
     let grid = grid_of(site);
@@ -78,13 +78,13 @@ pub extern "C" fn recharge_day(
     totals: &mut [u64; 7],
     day: DayNumbers,
 ) -> u64
-    ensures { handed result (storesFrom soil.new snow.new memory.new last_serial.new frost_index.new)
-        (resultsFrom intercepted.new outflow.new evapotranspired.new recharged.new rejected.new)
+    ensures { handed result (stores_from soil.new snow.new memory.new last_serial.new frost_index.new)
+        (results_from intercepted.new outflow.new evapotranspired.new recharged.new rejected.new)
         totals.new
-        ≡ dayGives (setupFrom site covers.now direction.now cover.now group.now available.now)
-        (storesFrom soil.old snow.old memory.old last_serial.old frost_index.old)
-        (resultsFrom intercepted.old outflow.old evapotranspired.old recharged.old rejected.old)
-        (dayFrom day) }
+        ≡ day_gives (setup_from site covers.now direction.now cover.now group.now available.now)
+        (stores_from soil.old snow.old memory.old last_serial.old frost_index.old)
+        (results_from intercepted.old outflow.old evapotranspired.old recharged.old rejected.old)
+        (day_from day) }
 {
     let grid = grid_of(site);
     let climate = climate_of(site);

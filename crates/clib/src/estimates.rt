@@ -1,14 +1,14 @@
 // Potential evapotranspiration from radiation, for C. It has no enum to hand over, so each estimate is a call of its own.
 ghost use Rattle.std.specs.Prelude.{◌≡◌};
-ghost use Rattle.paper.specs.Radiation.{turc, jensenHaise, estimatedOf};
-ghost use Rattle.radiation.specs.Estimates.{weatherAs};
-ghost use Rattle.clib.specs.Estimates.{weatherFrom, estimate, estimateGiven};
+ghost use Rattle.paper.specs.Radiation.{turc, jensen_haise, estimated_of};
+ghost use Rattle.radiation.specs.Estimates.{weather_as};
+ghost use Rattle.clib.specs.Estimates.{weather_from, estimate, estimate_given};
 
 use crate::numbers::numbered;
 use radiation::{Estimate, Weather};
 
 fn estimated(weather: Weather, potential: &mut u64) -> u64
-    ensures { estimate result potential.new ≡ estimateGiven (estimatedOf (weatherAs weather)) }
+    ensures { estimate result potential.new ≡ estimate_given (estimated_of (weather_as weather)) }
 {
     let answer = radiation::potential(weather);
     let depth = answer.depth();
@@ -23,7 +23,7 @@ pub extern "C" fn recharge_turc(
     humidity: f64,
     potential: &mut u64,
 ) -> u64
-    ensures { estimate result potential.new ≡ estimateGiven (estimatedOf (weatherFrom mean (turc radiation humidity))) }
+    ensures { estimate result potential.new ≡ estimate_given (estimated_of (weather_from mean (turc radiation humidity))) }
 {
     let weather = Weather {
         mean,
@@ -34,7 +34,7 @@ pub extern "C" fn recharge_turc(
 
 #[unsafe(no_mangle)]
 pub extern "C" fn recharge_jensen_haise(mean: f64, radiation: f64, potential: &mut u64) -> u64
-    ensures { estimate result potential.new ≡ estimateGiven (estimatedOf (weatherFrom mean (jensenHaise radiation))) }
+    ensures { estimate result potential.new ≡ estimate_given (estimated_of (weather_from mean (jensen_haise radiation))) }
 {
     let weather = Weather {
         mean,

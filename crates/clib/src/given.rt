@@ -1,8 +1,8 @@
 // What C hands over by value, number by number under its name.
 ghost use Rattle.std.specs.Prelude.{◌≡◌, ◌<◌};
-ghost use Rattle.records.specs.Grids.{gridAs, climateAs};
-ghost use Rattle.records.specs.Days.{dayAs};
-ghost use Rattle.clib.specs.Given.{gridFrom, climateFrom, dayFrom};
+ghost use Rattle.records.specs.Grids.{grid_as, climate_as};
+ghost use Rattle.records.specs.Days.{day_as};
+ghost use Rattle.clib.specs.Given.{grid_from, climate_from, day_from};
 ghost use Rattle.clib.specs.Narrow.{narrow};
 
 use crate::numbers::{depth, index};
@@ -10,7 +10,7 @@ use records::{Climate, DayRecord, Grid, Season, Setpoints, TenthF};
 
 // The grid's size and the climate.
 #[repr(C)]
-#[derive(Drop)]
+#[derive(Clone, Copy)]
 pub struct Site {
     pub width: u32,
     pub height: u32,
@@ -21,7 +21,7 @@ pub struct Site {
 }
 
 #[repr(C)]
-#[derive(Drop)]
+#[derive(Clone, Copy)]
 pub struct DayNumbers {
     pub serial: u32,
     pub day_of_year: u32,
@@ -33,7 +33,7 @@ pub struct DayNumbers {
 }
 
 pub fn grid_of(site: Site) -> Grid
-    ensures { gridAs result ≡ gridFrom site }
+    ensures { grid_as result ≡ grid_from site }
 {
     Grid {
         width: site.width,
@@ -42,7 +42,7 @@ pub fn grid_of(site: Site) -> Grid
 }
 
 pub fn climate_of(site: Site) -> Climate
-    ensures { climateAs result ≡ climateFrom site }
+    ensures { climate_as result ≡ climate_from site }
 {
     let season = Season {
         first: site.first_growing,
@@ -56,7 +56,7 @@ pub fn climate_of(site: Site) -> Climate
 }
 
 pub(crate) fn record_of(day: DayNumbers) -> DayRecord
-    ensures { (dayAs result ≡ dayFrom day) × (result.gross.0 < narrow) }
+    ensures { (day_as result ≡ day_from day) × (result.gross.0 < narrow) }
 {
     DayRecord {
         serial: day.serial,

@@ -1,5 +1,7 @@
 // The library for C: the library's calls, the estimates from radiation and the program's text over plain numbers. What is small goes by value as a struct,
 // a slice is a pointer and a length, and what has a fixed length is a pointer. include/recharge.h says them to C.
+#![tactic(auto)]
+
 mod calls;
 mod estimates;
 mod given;

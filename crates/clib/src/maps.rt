@@ -1,8 +1,8 @@
 // Arc ASCII grids for C: a header's numbers and its three texts lie in lent arrays.
 ghost use Rattle.std.specs.Prelude.{◌≡◌, min, length};
-ghost use Rattle.grids.specs.Forms.{wholeForm, inchesForm, wholeVerdict, inchesVerdict};
-ghost use Rattle.grids.specs.Given.{verdictAs, headerAs};
-ghost use Rattle.clib.specs.Grids.{gridReturned, headerFrom, GridRead, GridWritten};
+ghost use Rattle.grids.specs.Forms.{whole_form, inches_form, whole_verdict, inches_verdict};
+ghost use Rattle.grids.specs.Given.{verdict_as, header_as};
+ghost use Rattle.clib.specs.Grids.{grid_returned, header_from, GridRead, GridWritten};
 
 use crate::numbers::numbered;
 use grids::{GridVerdict, Header, Measure};
@@ -15,7 +15,7 @@ const LAST_PLACE: usize = 4294967295;
 const NO_TEXT: usize = 21;
 
 fn grid_returned(verdict: GridVerdict) -> u64
-    ensures { result ≡ gridReturned (verdictAs verdict) }
+    ensures { result ≡ grid_returned (verdict_as verdict) }
 {
     let place = verdict.place();
     if LAST_PLACE < place {
@@ -40,7 +40,7 @@ fn header_from(
     y_corner: &[u8; 20],
     cell_size: &[u8; 20],
 ) -> Header
-    ensures { headerAs result ≡ headerFrom numbers.now no_data x_corner.now y_corner.now cell_size.now }
+    ensures { header_as result ≡ header_from numbers.now no_data x_corner.now y_corner.now cell_size.now }
 {
     let width = numbers[0];
     let height = numbers[1];
@@ -119,8 +119,8 @@ pub extern "C" fn recharge_grid_write(
     written: &mut u64,
 ) -> u64
     ensures { GridWritten
-        (wholeVerdict (headerFrom numbers.now no_data x_corner.now y_corner.now cell_size.now) cells.now (length text.old))
-        (wholeForm (headerFrom numbers.now no_data x_corner.now y_corner.now cell_size.now) cells.now)
+        (whole_verdict (header_from numbers.now no_data x_corner.now y_corner.now cell_size.now) cells.now (length text.old))
+        (whole_form (header_from numbers.now no_data x_corner.now y_corner.now cell_size.now) cells.now)
         text.old text.new written.new result }
 {
     let header = header_from(numbers, no_data, x_corner, y_corner, cell_size);
@@ -142,8 +142,8 @@ pub extern "C" fn recharge_grid_inches(
     written: &mut u64,
 ) -> u64
     ensures { GridWritten
-        (inchesVerdict (headerFrom numbers.now no_data x_corner.now y_corner.now cell_size.now) units.now (length text.old))
-        (inchesForm (headerFrom numbers.now no_data x_corner.now y_corner.now cell_size.now) units.now)
+        (inches_verdict (header_from numbers.now no_data x_corner.now y_corner.now cell_size.now) units.now (length text.old))
+        (inches_form (header_from numbers.now no_data x_corner.now y_corner.now cell_size.now) units.now)
         text.old text.new written.new result }
 {
     let header = header_from(numbers, no_data, x_corner, y_corner, cell_size);

@@ -1,7 +1,7 @@
 // Plain numbers and quantities, and what a call returns to C.
 ghost use Rattle.std.specs.Prelude.{◌≡◌, ◌<◌};
-ghost use Rattle.paper.specs.Refusals.{verdictPlace};
-ghost use Rattle.records.specs.Verdicts.{verdictAs};
+ghost use Rattle.paper.specs.Refusals.{verdict_place};
+ghost use Rattle.records.specs.Verdicts.{verdict_as};
 ghost use Rattle.clib.specs.Narrow.{narrow};
 ghost use Rattle.clib.specs.Numbers.{numbered as both, returned};
 
@@ -31,8 +31,8 @@ pub(crate) fn numbered(number: u32, place: usize) -> u64
 
 // 0 where it accepts.
 pub(crate) fn returned_as(verdict: Verdict) -> u64
-    requires { verdictPlace (verdictAs verdict) < narrow }
-    ensures { result ≡ returned (verdictAs verdict) }
+    requires { verdict_place (verdict_as verdict) < narrow }
+    ensures { result ≡ returned (verdict_as verdict) }
 {
     numbered(verdict.number(), verdict.place())
 }

@@ -1,8 +1,8 @@
 // What a state has besides its stores, and the totals, as plain numbers.
 ghost use Rattle.std.specs.Prelude.{◌≡◌};
-ghost use Rattle.records.specs.Past.{memoryAs, lastAs, pastAs};
-ghost use Rattle.records.specs.Answers.{totalsAs};
-ghost use Rattle.clib.specs.Numbers.{memoryFrom, memoryList, lastFrom, lastNumber, pastFrom, totalsList};
+ghost use Rattle.records.specs.Past.{memory_as, last_as, past_as};
+ghost use Rattle.records.specs.Answers.{totals_as};
+ghost use Rattle.clib.specs.Numbers.{memory_from, memory_list, last_from, last_number, past_from, totals_list};
 ghost use Rattle.clib.specs.Narrow.{NarrowMemory, Narrow};
 
 use crate::numbers::{depth, index};
@@ -12,7 +12,7 @@ use records::{Last, Memory, Past, Totals};
 const NO_SERIAL: u32 = 4294967295;
 
 fn memory_from(memory: &[u32; 5]) -> Memory
-    ensures { (memoryAs result ≡ memoryFrom memory.now) × NarrowMemory (memoryAs result) }
+    ensures { (memory_as result ≡ memory_from memory.now) × NarrowMemory (memory_as result) }
 {
     Memory {
         oldest: depth(memory[0]),
@@ -24,7 +24,7 @@ fn memory_from(memory: &[u32; 5]) -> Memory
 }
 
 fn last_from(serial: u32) -> Last
-    ensures { lastAs result ≡ lastFrom serial }
+    ensures { last_as result ≡ last_from serial }
 {
     if serial == NO_SERIAL {
         return Last::Never;
@@ -33,7 +33,7 @@ fn last_from(serial: u32) -> Last
 }
 
 pub(crate) fn past_from(memory: &[u32; 5], last_serial: u32, frost_index: u32) -> Past
-    ensures { (pastAs result ≡ pastFrom memory.now last_serial frost_index) × Narrow (pastAs result) }
+    ensures { (past_as result ≡ past_from memory.now last_serial frost_index) × Narrow (past_as result) }
 {
     let memory = memory_from(memory);
     let last = last_from(last_serial);
@@ -46,8 +46,8 @@ pub(crate) fn past_from(memory: &[u32; 5], last_serial: u32, frost_index: u32) -
 }
 
 pub(crate) fn memory_kept(kept: Past) -> [u32; 5]
-    requires { Narrow (pastAs kept) }
-    ensures { result ≡ memoryList (memoryAs kept.memory) }
+    requires { Narrow (past_as kept) }
+    ensures { result ≡ memory_list (memory_as kept.memory) }
 {
     let memory = kept.memory;
     let oldest = memory.oldest.0;
@@ -65,7 +65,7 @@ pub(crate) fn memory_kept(kept: Past) -> [u32; 5]
 }
 
 pub(crate) fn serial_kept(kept: Past) -> u32
-    ensures { result ≡ lastNumber (lastAs kept.last) }
+    ensures { result ≡ last_number (last_as kept.last) }
 {
     let last = kept.last;
     match last {
@@ -75,7 +75,7 @@ pub(crate) fn serial_kept(kept: Past) -> u32
 }
 
 pub(crate) fn index_kept(kept: Past) -> u32
-    requires { Narrow (pastAs kept) }
+    requires { Narrow (past_as kept) }
     ensures { result ≡ kept.frost.0 }
 {
     let index = kept.frost.0;
@@ -84,7 +84,7 @@ pub(crate) fn index_kept(kept: Past) -> u32
 
 // In the paper's order.
 pub(crate) fn figures_of(totals: Totals) -> [u64; 7]
-    ensures { result ≡ totalsList (totalsAs totals) }
+    ensures { result ≡ totals_list (totals_as totals) }
 {
     let gross = totals.gross.0;
     let intercepted = totals.intercepted.0;

@@ -1,10 +1,10 @@
 // Why a cell got its figures, for C.
 ghost use Rattle.std.specs.Prelude.{◌≡◌};
-ghost use Rattle.paper.specs.Reasons.{whyOf};
-ghost use Rattle.reasons.specs.Whys.{whyAs};
-ghost use Rattle.clib.specs.Given.{setupFrom, dayFrom};
-ghost use Rattle.clib.specs.Handed.{storesFrom, stateFrom};
-ghost use Rattle.clib.specs.Whys.{reasonList, explained, reasonGiven};
+ghost use Rattle.paper.specs.Reasons.{why_of};
+ghost use Rattle.reasons.specs.Whys.{why_as};
+ghost use Rattle.clib.specs.Given.{setup_from, day_from};
+ghost use Rattle.clib.specs.Handed.{stores_from, state_from};
+ghost use Rattle.clib.specs.Whys.{reason_list, explained, reason_given};
 
 use crate::given::{DayNumbers, Site, climate_of, grid_of, record_of};
 use crate::numbers::returned_as;
@@ -14,7 +14,7 @@ use records::{index_of, wide};
 
 // The reason's number and its two depths; zeros where there is none.
 fn told(why: Why) -> [u64; 3]
-    ensures { result ≡ reasonList (whyAs why) }
+    ensures { result ≡ reason_list (why_as why) }
 {
     let first = why.first().0;
     let second = why.second().0;
@@ -38,9 +38,9 @@ pub extern "C" fn recharge_why(
     cell: u32,
     reason: &mut [u64; 3],
 ) -> u64
-    ensures { explained result reason.new ≡ reasonGiven (whyOf
-        (setupFrom site covers.now direction.now cover.now group.now available.now)
-        (stateFrom (storesFrom soil.now snow.now memory.now last_serial frost_index)) (dayFrom day) cell) }
+    ensures { explained result reason.new ≡ reason_given (why_of
+        (setup_from site covers.now direction.now cover.now group.now available.now)
+        (state_from (stores_from soil.now snow.now memory.now last_serial frost_index)) (day_from day) cell) }
 {
     let grid = grid_of(site);
     let climate = climate_of(site);

@@ -2,8 +2,8 @@
 use Rattle.covers.specs.Plots.{Plot}
 use Rattle.covers.specs.declared.grounds.Plot as code
 
-abbrev pub plotAs : code.Plot → Plot
-plotAs p =
+abbrev pub plot_as : code.Plot → Plot
+plot_as p =
     record {
       intercepted = p.intercepted.0;
       rain = p.rain.0;

@@ -1,7 +1,7 @@
 // What the rules read of one cell's ground on a day: the numbers of its slot, and its capacity.
 ghost use Rattle.std.specs.Prelude.{◌≡◌, ◌*◌, ◌<◌};
-ghost use Rattle.covers.specs.Plots.{plotAt, plotBy};
-ghost use Rattle.covers.specs.Grounds.{plotAs};
+ghost use Rattle.covers.specs.Plots.{plot_at, plot_by};
+ghost use Rattle.covers.specs.Grounds.{plot_as};
 
 use crate::plots::{
     CURVE_NUMBER, INTERCEPTED, LARGEST_RECHARGE, PLOT_NUMBERS, PLOT_ROOM, RAIN, ROOT_DEPTH,
@@ -10,7 +10,7 @@ use crate::plots::{
 use crate::slots::small_index;
 use records::{CurveNumber, Depth, depth};
 
-#[derive(Drop)]
+#[derive(Clone, Copy)]
 pub struct Plot {
     pub intercepted: Depth,
     pub rain: Depth,
@@ -23,7 +23,7 @@ pub struct Plot {
 
 fn plot_number(plots: &[u32; PLOT_ROOM], slot: usize, k: usize) -> u32
     requires { (slot < 256) × (k < 6) }
-    ensures { result ≡ plotAt plots.now slot k }
+    ensures { result ≡ plot_at plots.now slot k }
 {
     plots[PLOT_NUMBERS * slot + k]
 }
@@ -36,7 +36,7 @@ pub fn capacity(available: u32, roots: u32) -> Depth
 }
 
 pub fn plot_at(plots: &[u32; PLOT_ROOM], slot: u8, available: u32) -> Plot
-    ensures { plotAs result ≡ plotBy plots.now slot available }
+    ensures { plot_as result ≡ plot_by plots.now slot available }
 {
     let at = small_index(slot);
     let curve = plot_number(plots, at, CURVE_NUMBER);

@@ -1,4 +1,6 @@
 // The cover table: its test, its index by code, and what it says of a slot, which is one cover with one soil group.
+#![tactic(auto)]
+
 mod grounds;
 mod plots;
 mod slots;

@@ -1,12 +1,12 @@
 // Rules 1 to 3 and 5 on each cover and soil group, once a day: all that the cells of one slot share, six numbers a slot in one array. On open
 // water nothing is intercepted, all of gross precipitation is rain, and the other four are 0.
 ghost use Rattle.std.specs.Prelude.{cond, ◌≡◌, ◌*◌, ◌/◌, ◌≤◌, ◌<◌, min, length};
-ghost use Rattle.theory.specs.Lists.{madeOver};
+ghost use Rattle.theory.specs.Lists.{made_over};
 ghost use Rattle.theory.specs.Sums.{given};
-ghost use Rattle.paper.specs.Limits.{mostGross};
+ghost use Rattle.paper.specs.Limits.{most_gross};
 ghost use Rattle.paper.specs.Covers.{entries};
-ghost use Rattle.weather.specs.Today.{todayAs};
-ghost use Rattle.covers.specs.Plots.{sharedAs, sharedBy, plotNumber, plotsOf};
+ghost use Rattle.weather.specs.Today.{today_as};
+ghost use Rattle.covers.specs.Plots.{shared_as, shared_by, plot_number, plots_of};
 
 use crate::slots::MOST_SLOTS;
 use crate::table::{
@@ -33,7 +33,7 @@ pub const PLOT_NUMBERS: usize = 6;
 
 pub const PLOT_ROOM: usize = PLOT_NUMBERS * MOST_SLOTS;
 
-#[derive(Drop)]
+#[derive(Clone, Copy)]
 struct SlotDay {
     intercepted: u32,
     rain: u32,
@@ -56,15 +56,15 @@ fn season_figure(growing: bool) -> usize
 
 // What of the net precipitation falls so.
 fn falling(so: bool, net: Depth) -> u32
-    requires { net.0 ≤ mostGross }
+    requires { net.0 ≤ most_gross }
     ensures { result ≡ given so net.0 }
 {
     if so { net.0 as u32 } else { 0 }
 }
 
 fn slot_day(today: Today, covers: &[u32], slot: usize) -> SlotDay
-    requires { (slot < 4 * entries covers.now) × (today.gross.0 ≤ mostGross) }
-    ensures { sharedAs result ≡ sharedBy (todayAs today) covers.now slot }
+    requires { (slot < 4 * entries covers.now) × (today.gross.0 ≤ most_gross) }
+    ensures { shared_as result ≡ shared_by (today_as today) covers.now slot }
 {
     let gross = today.gross;
     let e = slot / 4;
@@ -100,9 +100,9 @@ fn slot_day(today: Today, covers: &[u32], slot: usize) -> SlotDay
 
 // The numbers of each slot of the table, as far as the room goes. The array is lent as a slice, whose length the prover knows.
 fn lay(today: Today, covers: &[u32], plots: &mut [u32])
-    requires { today.gross.0 ≤ mostGross }
-    ensures { plots.new ≡ madeOver (6 * min (length plots.old / 6) (4 * entries covers.now))
-        (plotNumber (todayAs today) covers.now) plots.old }
+    requires { today.gross.0 ≤ most_gross }
+    ensures { plots.new ≡ made_over (6 * min (length plots.old / 6) (4 * entries covers.now))
+        (plot_number (today_as today) covers.now) plots.old }
 {
     let mut slots = 4 * (covers.len() / ENTRY_NUMBERS);
     if plots.len() / PLOT_NUMBERS < slots {
@@ -125,7 +125,7 @@ fn lay(today: Today, covers: &[u32], plots: &mut [u32])
 // Fills the array by slot, so that the pass over the cells reads it and works nothing out again. On a day with more gross precipitation than any
 // day has, it is left as lent.
 pub fn lay_plots(today: Today, covers: &[u32], plots: &mut [u32; PLOT_ROOM])
-    ensures { plots.new ≡ plotsOf (todayAs today) covers.now plots.old }
+    ensures { plots.new ≡ plots_of (today_as today) covers.now plots.old }
 {
     if today.gross.0 <= Depth::MOST_GROSS.0 {
         lay(today, covers, plots);

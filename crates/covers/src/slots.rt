@@ -2,7 +2,7 @@
 ghost use Rattle.std.specs.Prelude.{cond, ◌≡◌, ◌+◌, ◌*◌, ◌/◌, ◌%◌, ◌≤◌, ◌<◌};
 ghost use Rattle.theory.specs.Lists.{made};
 ghost use Rattle.paper.specs.Covers.{number_of};
-ghost use Rattle.covers.specs.Slots.{open_at, groupNumberAt};
+ghost use Rattle.covers.specs.Slots.{open_at, group_number_at};
 
 use crate::table::{ENTRY_NUMBERS, MOST_ENTRIES, OPEN_FLAG, ROOT_DEPTHS};
 
@@ -56,7 +56,7 @@ fn soil_number(covers: &[u32], lake: bool, slot: usize, k: usize) -> u32
 
 // The root depth of every slot, an entry at a time. Only the slots of which the table has a number are looked at: the others have none.
 pub fn root_depths(covers: &[u32]) -> [u32; MOST_SLOTS]
-    ensures { result ≡ made 256 (groupNumberAt covers.now 11) }
+    ensures { result ≡ made 256 (group_number_at covers.now 11) }
 {
     let mut roots = [0u32; MOST_SLOTS];
     let mut slots = MOST_SLOTS;

@@ -1,9 +1,9 @@
 // The cover table, test 3: 16 numbers an entry, tested once a call, and found by a cell's code in one step.
 ghost use Rattle.std.specs.Prelude.{not, ◌≡◌, ◌+◌, ◌*◌, ◌≤◌, ◌<◌, length, replicate};
 ghost use Rattle.theory.specs.Lowest.{lowest};
-ghost use Rattle.paper.specs.Covers.{code_of, entries, number_of, sizeFits, rises as risesAt, groupFits, entryFits};
+ghost use Rattle.paper.specs.Covers.{code_of, entries, number_of, size_fits, rises as risesAt, group_fits, entry_fits};
 ghost use Rattle.records.specs.Places.{place_in};
-ghost use Rattle.covers.specs.Table.{EntriesFit, indexOf, CoversRead};
+ghost use Rattle.covers.specs.Table.{EntriesFit, index_of, CoversRead};
 
 use records::{CurveNumber, Depth, Place, Refusal, Verdict, index_of, wide};
 
@@ -35,7 +35,7 @@ pub const LARGEST_RECHARGES: usize = 5;
 pub const ROOT_DEPTHS: usize = 11;
 
 fn size_fits(covers: &[u32]) -> bool
-    ensures { result ≡ sizeFits covers.now }
+    ensures { result ≡ size_fits covers.now }
 {
     let numbers = covers.len();
     let count = numbers / ENTRY_NUMBERS;
@@ -77,7 +77,7 @@ fn rises(covers: &[u32], e: usize) -> bool
 
 fn group_fits(covers: &[u32], e: usize, group: usize) -> bool
     requires { (16 * e + 16 ≤ length covers.now) × (group ≤ 4) }
-    ensures { result ≡ groupFits covers.now e group }
+    ensures { result ≡ group_fits covers.now e group }
 {
     let number = number_of(covers, e, CURVE_NUMBERS + group);
     ((CurveNumber::LEAST.0 <= number) & (number <= CurveNumber::MOST.0))
@@ -87,7 +87,7 @@ fn group_fits(covers: &[u32], e: usize, group: usize) -> bool
 
 fn entry_fits(covers: &[u32], e: usize) -> bool
     requires { 16 * e + 16 ≤ length covers.now }
-    ensures { result ≡ entryFits covers.now e }
+    ensures { result ≡ entry_fits covers.now e }
 {
     let code = code_of(covers, e);
     rises(covers, e)
@@ -103,7 +103,7 @@ fn entry_fits(covers: &[u32], e: usize) -> bool
 
 // The lowest entry with a fault.
 fn bad_entry(covers: &[u32]) -> Place
-    ensures { result ≡ place_in (lowest (entries covers.now) (λ e. not (entryFits covers.now e))) }
+    ensures { result ≡ place_in (lowest (entries covers.now) (λ e. not (entry_fits covers.now e))) }
 {
     let count = covers.len() / ENTRY_NUMBERS;
     let mut e = 0;
@@ -119,7 +119,7 @@ fn bad_entry(covers: &[u32]) -> Place
 // Fills the index by code: one more than the entry.
 fn index_codes(covers: &[u32], index: &mut [u8; CODES])
     requires { EntriesFit covers.now × (index.old ≡ replicate 256 0) }
-    ensures { index.new ≡ indexOf covers.now (entries covers.now) }
+    ensures { index.new ≡ index_of covers.now (entries covers.now) }
 {
     let count = covers.len() / ENTRY_NUMBERS;
     let mut e = 0;

@@ -1,8 +1,8 @@
 // A list of days in one call, from the fresh state.
 ghost use Rattle.std.specs.Prelude.{◌≡◌, ◌<◌};
-ghost use Rattle.paper.specs.Refusals.{verdictPlace};
-ghost use Rattle.records.specs.Verdicts.{verdictAs};
-ghost use Rattle.clib.specs.Given.{setupFrom};
+ghost use Rattle.paper.specs.Refusals.{verdict_place};
+ghost use Rattle.records.specs.Verdicts.{verdict_as};
+ghost use Rattle.clib.specs.Given.{setup_from};
 ghost use Rattle.clib.specs.Narrow.{narrow};
 ghost use Rattle.clib.specs.Numbers.{returned};
 ghost use Rattle.cperiod.specs.Period.{PeriodGiven};
@@ -14,8 +14,8 @@ const NUMBER: u64 = 4294967296;
 
 // As every call for C returns it: 0 where it accepts, else the refusal's number × 2^32 + its place.
 fn returned_as(verdict: Verdict) -> u64
-    requires { verdictPlace (verdictAs verdict) < narrow }
-    ensures { result ≡ returned (verdictAs verdict) }
+    requires { verdict_place (verdict_as verdict) < narrow }
+    ensures { result ≡ returned (verdict_as verdict) }
 {
     wide(verdict.number()) * NUMBER + verdict.place() as u64
 }
@@ -36,7 +36,7 @@ pub extern "C" fn recharge_period(
     accepted: &mut u64,
 ) -> u64
     ensures { PeriodGiven
-        (setupFrom site covers.now direction.now cover.now group.now available.now)
+        (setup_from site covers.now direction.now cover.now group.now available.now)
         days.now soil.old snow.old sums.old totals.old
         soil.new snow.new sums.new totals.new accepted.new result }
 {

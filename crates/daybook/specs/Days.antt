@@ -8,11 +8,11 @@ unsigned (pos n) = n
 unsigned (negsuc n) = 4294967295
 
 -- day k; past the list stand zeros
-unfoldable pub dayIn : List ℤ → ℕ → Day
-dayIn ns k =
+unfoldable pub day_in : List ℤ → ℕ → Day
+day_in ns k =
     record {
       serial = unsigned (get_or ns (7 * k) (pos 0));
-      dayOfYear = unsigned (get_or ns (7 * k + 1) (pos 0));
+      day_of_year = unsigned (get_or ns (7 * k + 1) (pos 0));
       gross = unsigned (get_or ns (7 * k + 2) (pos 0));
       minimum = get_or ns (7 * k + 3) (pos 0);
       mean = get_or ns (7 * k + 4) (pos 0);

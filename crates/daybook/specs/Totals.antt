@@ -19,8 +19,8 @@ ledger totals zero = []
 ledger totals (suc k) = ledger totals k ++ seven (totals k)
 
 -- the totals of day k; past the list stand zeros
-unfoldable pub totalsIn : List ℕ → ℕ → Totals
-totalsIn ns k =
+unfoldable pub totals_in : List ℕ → ℕ → Totals
+totals_in ns k =
     record {
       gross = get_or ns (7 * k) 0;
       intercepted = get_or ns (7 * k + 1) 0;

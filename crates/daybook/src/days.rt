@@ -1,8 +1,8 @@
 // Days out of a list of whole numbers: of each its serial, day of the year, gross precipitation, minimum, mean and maximum temperature, and potential
 // evapotranspiration. Every list is answered: what it does not have reads as 0.
 ghost use Rattle.std.specs.Prelude.{◌≡◌, ◌*◌, min, pos, get_or};
-ghost use Rattle.records.specs.Days.{dayAs};
-ghost use Rattle.daybook.specs.Days.{unsigned as unsignedOf, dayIn};
+ghost use Rattle.records.specs.Days.{day_as};
+ghost use Rattle.daybook.specs.Days.{unsigned as unsignedOf, day_in};
 
 use records::{DayRecord, Depth, TenthF, wide};
 
@@ -41,7 +41,7 @@ pub(crate) fn place_of(count: usize, k: usize) -> usize
 }
 
 pub fn day_at(days: &[i32], k: usize) -> DayRecord
-    ensures { dayAs result ≡ dayIn days.now k }
+    ensures { day_as result ≡ day_in days.now k }
 {
     let at = place_of(days.len(), k);
     DayRecord {

@@ -1,4 +1,6 @@
 // Days and their totals as lists of numbers, seven for each day, as a caller of many days has them.
+#![tactic(auto)]
+
 mod days;
 mod totals;
 

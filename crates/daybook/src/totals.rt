@@ -1,8 +1,8 @@
 // The totals of days in a list, in the order of a line of the office's program.
 ghost use Rattle.std.specs.Prelude.{cond, ◌≡◌, ◌*◌, ◌/◌, ltb, length, get_or};
 ghost use Rattle.std.proofs.lemmas.List.Edits.{sets};
-ghost use Rattle.records.specs.Answers.{totalsAs};
-ghost use Rattle.daybook.specs.Totals.{seven, totalsIn};
+ghost use Rattle.records.specs.Answers.{totals_as};
+ghost use Rattle.daybook.specs.Totals.{seven, totals_in};
 
 use crate::days::place_of;
 use records::{Depth, Totals};
@@ -12,7 +12,7 @@ const DAY_TOTALS: usize = 7;
 
 // Writes the totals of day k, where the list has room for them.
 pub fn put_totals(list: &mut [u64], k: usize, totals: Totals)
-    ensures { list.new ≡ cond (ltb k (length list.old / 7)) (sets list.old (7 * k) (seven (totalsAs totals))) list.old }
+    ensures { list.new ≡ cond (ltb k (length list.old / 7)) (sets list.old (7 * k) (seven (totals_as totals))) list.old }
 {
     if k < list.len() / DAY_TOTALS {
         let at = DAY_TOTALS * k;
@@ -37,7 +37,7 @@ fn total_at(list: &[u64], place: usize) -> u64
 
 // The totals of day k; what the list does not have reads as 0.
 pub fn totals_at(list: &[u64], k: usize) -> Totals
-    ensures { totalsAs result ≡ totalsIn list.now k }
+    ensures { totals_as result ≡ totals_in list.now k }
 {
     let at = place_of(list.len(), k);
     Totals {

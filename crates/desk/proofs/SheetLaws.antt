@@ -10,42 +10,42 @@ use lib.ListN.{length, get_or, drop, drop_of_length-le}
 use lib.Seq.{drop-cons}
 use borrow.Author.Tests.{eq-eqb, ne_eqb}
 use Rattle.theory.specs.Lists.{made}
-use Rattle.theory.proofs.Cases.{byCases, below_or_not}
-use Rattle.theory.proofs.ListLaws.{made-length, made_at}
+use Rattle.theory.proofs.Cases.{by_cases, below_or_not}
+use Rattle.theory.proofs.ListLaws.{made_length, made_at}
 use Rattle.grids.specs.Headers.{same}
-use Rattle.grids.specs.Measures.{mostCharacters}
-use Rattle.grids.specs.Given.{textAs}
+use Rattle.grids.specs.Measures.{most_characters}
+use Rattle.grids.specs.Given.{text_as}
 use Rattle.grids.specs.declared.measures.Measure.{Measure}
 use Rattle.grids.proofs.NameLaws as names
-use Rattle.grids.proofs.MeasureLaws.{text-long, text-short, none_made}
+use Rattle.grids.proofs.MeasureLaws.{text_long, text_short, none_made}
 
-pub long-length : (m : Measure) → mostCharacters < m.count → (0 ≡ length (textAs m)) × (0 ≤ mostCharacters)
-long-length m h = (sym (ap length (text-long m h)), omega arith)
+pub long_length : (m : Measure) → most_characters < m.count → (0 ≡ length (text_as m)) × (0 ≤ most_characters)
+long_length m h = (sym (ap length (text_long m h)), omega arith)
 
-pub short-length : (m : Measure) → m.count ≤ mostCharacters → (m.count ≡ length (textAs m)) × (m.count ≤ mostCharacters)
-short-length m h = (sym (ap length (text-short m h) ∙ made-length m.count (λ i. get_or m.bytes i 0)), h)
+pub short_length : (m : Measure) → m.count ≤ most_characters → (m.count ≡ length (text_as m)) × (m.count ≤ most_characters)
+short_length m h = (sym (ap length (text_short m h) ∙ made_length m.count (λ i. get_or m.bytes i 0)), h)
 
 -- a text's bytes are the first of the lent ones
 abbrev pub front : ℕ → List ℕ → List ℕ
 front count bytes = made count (λ i. get_or bytes i 0)
 
-front-text : (m : Measure) (count : ℕ) → count ≡ length (textAs m) → front count m.bytes ≡ textAs m
-front-text m count e =
-    below_or_not mostCharacters m.count
-    (λ h. let none : count ≡ 0 = e ∙ sym (long-length m h).0 in rw (none, text-long m h) (sym (none_made (λ i. get_or m.bytes i 0))))
-    (λ h. let all : count ≡ m.count = e ∙ sym (short-length m h).0 in rw all (sym (text-short m h)))
+front_text : (m : Measure) (count : ℕ) → count ≡ length (text_as m) → front count m.bytes ≡ text_as m
+front_text m count e =
+    below_or_not most_characters m.count
+    (λ h. let none : count ≡ 0 = e ∙ sym (long_length m h).0 in rw (none, text_long m h) (sym (none_made (λ i. get_or m.bytes i 0))))
+    (λ h. let all : count ≡ m.count = e ∙ sym (short_length m h).0 in rw all (sym (text_short m h)))
 
 -- what is left to compare from a place on
 abbrev pub left : ℕ → List ℕ → List ℕ → ℕ → Bool
 left count bytes others i = names.left (front count bytes) (front count others) i
 
-pub left-all :
-    (m n : Measure) (count : ℕ) → count ≡ length (textAs m) → count ≡ length (textAs n) → left count m.bytes n.bytes 0 ≡ same (textAs m) (textAs n)
-left-all m n count e f = rw (front-text m count e, front-text n count f) refl
+pub left_all :
+    (m n : Measure) (count : ℕ) → count ≡ length (text_as m) → count ≡ length (text_as n) → left count m.bytes n.bytes 0 ≡ same (text_as m) (text_as n)
+left_all m n count e f = rw (front_text m count e, front_text n count f) refl
 
 module _ (count : ℕ) (bytes others : List ℕ) (i : ℕ) where
   long : (l : List ℕ) → length (front count l) ≡ count
-  long l = made-length count (λ k. get_or l k 0)
+  long l = made_length count (λ k. get_or l k 0)
 
   sized : length (front count bytes) ≡ length (front count others)
   sized = long bytes ∙ sym (long others)

@@ -5,32 +5,32 @@ use Rattle.words.specs.Writing.{farthest}
 use Rattle.desk.specs.declared.faults.Tested.{Tested}
 use Rattle.desk.specs.declared.answers.Setup.{Setup}
 use Rattle.desk.specs.declared.faults.Fault.TheVariants.{Covers, TooLong}
-use Rattle.desk.specs.Faults.{◌then◌, unless, answer_of, onPassed}
-use Rattle.desk.specs.Sheets.{sheetOf, testGrids}
-use Rattle.desk.specs.CoverFile.{isCoverFile}
+use Rattle.desk.specs.Faults.{◌then◌, unless, answer_of, on_passed}
+use Rattle.desk.specs.Sheets.{sheet_of, test_grids}
+use Rattle.desk.specs.CoverFile.{is_cover_file}
 use Rattle.desk.specs.Texts.{Files, text_of}
 
 -- a text that does not fit: where it would end
-unfoldable pub testLength : List ℕ → ℕ → Tested
-testLength text room = unless (leb (length text) room) (TooLong (min (length text) farthest))
+unfoldable pub test_length : List ℕ → ℕ → Tested
+test_length text room = unless (leb (length text) room) (TooLong (min (length text) farthest))
 
 -- the grids, then the cover file
-abbrev pub testContents : Files → Tested
-testContents f =
-    testGrids (sheetOf f.direction) (sheetOf f.cover) (sheetOf f.group) (sheetOf f.water) then unless (isCoverFile f.covers) Covers
+abbrev pub test_contents : Files → Tested
+test_contents f =
+    test_grids (sheet_of f.direction) (sheet_of f.cover) (sheet_of f.group) (sheet_of f.water) then unless (is_cover_file f.covers) Covers
 
-unfoldable pub testFiles : Files → ℕ → Tested
-testFiles f room = testContents f then testLength (text_of f) room
+unfoldable pub test_files : Files → ℕ → Tested
+test_files f room = test_contents f then test_length (text_of f) room
 
 -- where nothing is wrong the text stands at the front of the output, every other byte being as it was; else the output is as it was
 pub record Answers (tested : Tested) (text before after : List ℕ) (r : Setup) : Type 0 where
   pub result : r ≡ answer_of tested (length text)
-  pub bytes : after ≡ onPassed tested (sets before 0 text) before
+  pub bytes : after ≡ on_passed tested (sets before 0 text) before
 
 -- the same where only the length can be wrong
 abbrev pub Fitted : List ℕ → List ℕ → List ℕ → Setup → Type 0
-Fitted text before after r = Answers (testLength text (length before)) text before after r
+Fitted text before after r = Answers (test_length text (length before)) text before after r
 
 -- the desk's files
 abbrev pub Sets : Files → List ℕ → List ℕ → Setup → Type 0
-Sets f before after r = Answers (testFiles f (length before)) (text_of f) before after r
+Sets f before after r = Answers (test_files f (length before)) (text_of f) before after r

@@ -21,6 +21,6 @@ answer_of Passed count = Text count
 answer_of (Failed fault) count = Wrong fault
 
 -- what holds where nothing is wrong, and where something is
-unfoldable pub onPassed : {A : Type 0} → Tested → A → A → A
-onPassed Passed x y = x
-onPassed (Failed fault) x y = y
+unfoldable pub on_passed : {A : Type 0} → Tested → A → A → A
+on_passed Passed x y = x
+on_passed (Failed fault) x y = y

@@ -1,9 +1,9 @@
 // What is answered to the desk's files.
 ghost use Rattle.std.specs.Prelude.{◌≤◌};
-ghost use Rattle.paper.specs.Limits.{mostCells};
+ghost use Rattle.paper.specs.Limits.{most_cells};
 ghost use Rattle.paper.specs.Setup.{cells_of};
-ghost use Rattle.records.specs.Grids.{gridAs};
-ghost use Rattle.desk.specs.Texts.{filesBy, cellsBy, setupText};
+ghost use Rattle.records.specs.Grids.{grid_as};
+ghost use Rattle.desk.specs.Texts.{files_by, cells_by, setup_text};
 ghost use Rattle.desk.specs.Answers.{Fitted, Sets};
 
 use crate::cover_file::is_cover_file;
@@ -13,7 +13,7 @@ use crate::texts::put_text;
 use grids::read_grid;
 use records::{Grid, MOST_CELLS};
 
-#[derive(Drop)]
+#[derive(Clone, Copy)]
 pub enum Setup {
     // The text stands at the front of the output: so many bytes.
     Text(usize),
@@ -31,8 +31,8 @@ fn write_text(
     weather: &[u8],
     output: &mut [u8],
 ) -> Setup
-    requires { cells_of (gridAs grid) ≤ mostCells }
-    ensures { Fitted (setupText (gridAs grid) covers.now (cellsBy direction.now cover.now group.now water.now) weather.now)
+    requires { cells_of (grid_as grid) ≤ most_cells }
+    ensures { Fitted (setup_text (grid_as grid) covers.now (cells_by direction.now cover.now group.now water.now) weather.now)
         output.old output.new result }
 {
     let end = put_text(
@@ -64,7 +64,7 @@ pub fn setup_text(
     weather: &[u8],
     output: &mut [u8],
 ) -> Setup
-    ensures { Sets (filesBy direction.now cover.now group.now water.now covers.now weather.now)
+    ensures { Sets (files_by direction.now cover.now group.now water.now covers.now weather.now)
         output.old output.new result }
 {
     let mut directions = [0i32; MOST_CELLS];

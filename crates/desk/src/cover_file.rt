@@ -1,7 +1,7 @@
 // The cover file's form.
 ghost use Rattle.std.specs.Prelude.{◌≡◌, length};
 ghost use Rattle.words.specs.Words.{words};
-ghost use Rattle.desk.specs.CoverFile.{coverCount, isCoverFile};
+ghost use Rattle.desk.specs.CoverFile.{cover_count, is_cover_file};
 
 use records::index_of;
 use words::{Meaning, next_word, number};
@@ -30,7 +30,7 @@ fn word_count(text: &[u8]) -> usize
 
 // The third word; 0 where that is no number, or one below zero.
 fn cover_count(text: &[u8]) -> u32
-    ensures { result ≡ coverCount text.now }
+    ensures { result ≡ cover_count text.now }
 {
     let first = next_word(text, 0);
     let second = next_word(text, first.end);
@@ -45,7 +45,7 @@ fn cover_count(text: &[u8]) -> u32
 }
 
 pub(crate) fn is_cover_file(text: &[u8]) -> bool
-    ensures { result ≡ isCoverFile text.now }
+    ensures { result ≡ is_cover_file text.now }
 {
     let count = cover_count(text);
     ((1 <= count) & (count <= MOST_COVERS))

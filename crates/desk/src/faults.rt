@@ -2,7 +2,7 @@
 ghost use Rattle.std.specs.Prelude.{◌≡◌};
 ghost use Rattle.desk.specs.Faults.{◌then◌, unless as unlessFits};
 
-#[derive(Drop)]
+#[derive(Clone, Copy)]
 pub enum Fault {
     // A grid is refused, 12 at this place: files 0 to 3 are direction, cover, group and water.
     Refused(u32, usize),
@@ -16,7 +16,7 @@ pub enum Fault {
     TooLong(usize),
 }
 
-#[derive(Drop)]
+#[derive(Clone, Copy)]
 pub(crate) enum Tested {
     Passed,
     Failed(Fault),

@@ -1,4 +1,6 @@
 // The mapping desk's files as a text of `balance` (M-101): four grids, a cover file and a weather file, as one function from bytes to bytes.
+#![tactic(auto)]
+
 mod answers;
 mod cover_file;
 mod faults;

@@ -1,9 +1,9 @@
 // What can be wrong with the four grids.
 ghost use Rattle.std.specs.Prelude.{◌&&◌, ◌≡◌, ◌≤◌, eqb, length};
 ghost use Rattle.grids.specs.Headers.{same};
-ghost use Rattle.grids.specs.Measures.{mostCharacters};
-ghost use Rattle.grids.specs.Given.{textAs, headerAs, verdictAs};
-ghost use Rattle.desk.specs.Sheets.{testRead, testMatch, testGrids, sheetAs};
+ghost use Rattle.grids.specs.Measures.{most_characters};
+ghost use Rattle.grids.specs.Given.{text_as, header_as, verdict_as};
+ghost use Rattle.desk.specs.Sheets.{test_read, test_match, test_grids, sheet_as};
 
 use crate::faults::{Fault, Tested};
 use grids::{GridVerdict, Header, MOST_CHARACTERS, Measure, Read};
@@ -11,7 +11,7 @@ use records::Grid;
 
 // How long a text is; a count past all its bytes is no text's.
 fn text_length(text: Measure) -> usize
-    ensures { (result ≡ length (textAs text)) × (result ≤ mostCharacters) }
+    ensures { (result ≡ length (text_as text)) × (result ≤ most_characters) }
 {
     let count = text.count;
     if MOST_CHARACTERS < count {
@@ -21,7 +21,7 @@ fn text_length(text: Measure) -> usize
 }
 
 fn same_text(text: Measure, other: Measure) -> bool
-    ensures { result ≡ same (textAs text) (textAs other) }
+    ensures { result ≡ same (text_as text) (text_as other) }
 {
     let count = text_length(text);
     if text_length(other) != count {
@@ -40,7 +40,7 @@ fn same_text(text: Measure, other: Measure) -> bool
 }
 
 fn test_read(file: u32, grid: Read) -> Tested
-    ensures { result ≡ testRead file (verdictAs grid.verdict) }
+    ensures { result ≡ test_read file (verdict_as grid.verdict) }
 {
     let verdict = grid.verdict;
     match verdict {
@@ -56,7 +56,7 @@ fn same_size(grid: Grid, first: Grid) -> bool
 }
 
 fn same_corner(header: Header, first: Header) -> bool
-    ensures { result ≡ (same (textAs header.x_corner) (textAs first.x_corner) && same (textAs header.y_corner) (textAs first.y_corner)) }
+    ensures { result ≡ (same (text_as header.x_corner) (text_as first.x_corner) && same (text_as header.y_corner) (text_as first.y_corner)) }
 {
     let x = header.x_corner;
     let first_x = first.x_corner;
@@ -66,7 +66,7 @@ fn same_corner(header: Header, first: Header) -> bool
 }
 
 fn test_match(file: u32, grid: Read, first: Read) -> Tested
-    ensures { result ≡ testMatch file (headerAs grid.header) (headerAs first.header) }
+    ensures { result ≡ test_match file (header_as grid.header) (header_as first.header) }
 {
     let header = grid.header;
     let first_header = first.header;
@@ -81,7 +81,7 @@ fn test_match(file: u32, grid: Read, first: Read) -> Tested
 
 // Each is read, then each is compared with the first.
 pub(crate) fn test_grids(direction: Read, cover: Read, group: Read, water: Read) -> Tested
-    ensures { result ≡ testGrids (sheetAs direction) (sheetAs cover) (sheetAs group) (sheetAs water) }
+    ensures { result ≡ test_grids (sheet_as direction) (sheet_as cover) (sheet_as group) (sheet_as water) }
 {
     test_read(0, direction)
         .then(test_read(1, cover))

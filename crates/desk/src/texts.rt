@@ -1,10 +1,10 @@
 // The text, written into a lent buffer as far as that goes.
 ghost use Rattle.std.specs.Prelude.{◌≤◌};
-ghost use Rattle.paper.specs.Limits.{mostCells};
+ghost use Rattle.paper.specs.Limits.{most_cells};
 ghost use Rattle.paper.specs.Setup.{cells_of};
-ghost use Rattle.records.specs.Grids.{gridAs};
+ghost use Rattle.records.specs.Grids.{grid_as};
 ghost use Rattle.words.specs.Writing.{Put};
-ghost use Rattle.desk.specs.Texts.{line_of, cellLines, cellsBy, setupText};
+ghost use Rattle.desk.specs.Texts.{line_of, cell_lines, cells_by, setup_text};
 
 use grids::put_cell;
 use records::{Grid, MOST_CELLS, wide};
@@ -35,8 +35,8 @@ fn put_lines(
     group: &[i32; MOST_CELLS],
     water: &[i32; MOST_CELLS],
 ) -> usize
-    requires { count ≤ mostCells }
-    ensures { Put at (cellLines (cellsBy direction.now cover.now group.now water.now) count)
+    requires { count ≤ most_cells }
+    ensures { Put at (cell_lines (cells_by direction.now cover.now group.now water.now) count)
         buffer.old buffer.new result }
 {
     let mut next = at;
@@ -62,8 +62,8 @@ pub(crate) fn put_text(
     water: &[i32; MOST_CELLS],
     weather: &[u8],
 ) -> usize
-    requires { cells_of (gridAs grid) ≤ mostCells }
-    ensures { Put 0 (setupText (gridAs grid) covers.now (cellsBy direction.now cover.now group.now water.now) weather.now)
+    requires { cells_of (grid_as grid) ≤ most_cells }
+    ensures { Put 0 (setup_text (grid_as grid) covers.now (cells_by direction.now cover.now group.now water.now) weather.now)
         buffer.old buffer.new result }
 {
     let columns = put_item(buffer, 0, wide(grid.width), b' ');

@@ -1,5 +1,7 @@
 // Document 01's worked example through the library: a fresh state and two days, then a day that is refused, since its serial
 // does not follow. It prints what the program `balance` prints of the same days; examples/c has them from C.
+#![tactic(auto)]
+
 use records::{
     Answer, Climate, DayRecord, Depth, FrostIndex, Grid, Past, Season, Setpoints, TenthF, Totals,
     Verdict,

@@ -6,32 +6,32 @@ use native.Mathlib.Omega.{arith}
 use lib.ListN.{length}
 use Rattle.words.specs.Digits.{digits}
 use Rattle.words.specs.Writing.{farthest, Put, Wrote}
-use Rattle.words.proofs.DigitLaws.{digits-short}
-use Rattle.words.proofs.WritingLaws.{wrote-length, wrote_then}
+use Rattle.words.proofs.DigitLaws.{digits_short}
+use Rattle.words.proofs.WritingLaws.{wrote_length, wrote_then}
 use Rattle.words.specs.Inches.{inches}
 use Rattle.explained.specs.Lines.{say}
 
-pub wrote-number : {at r : ℕ} {l l' : List ℕ} (n : ℕ) → n < 2 ^ 64 → Put at (digits n) l l' r → Wrote 20 at (digits n) l l' r
-wrote-number n fits p = record { put = p; short = digits-short n fits }
+pub wrote_number : {at r : ℕ} {l l' : List ℕ} (n : ℕ) → n < 2 ^ 64 → Put at (digits n) l l' r → Wrote 20 at (digits n) l l' r
+wrote_number n fits p = record { put = p; short = digits_short n fits }
 
-pub wrote-within : {a b at r : ℕ} {xs l l' : List ℕ} → Wrote a at xs l l' r → a ≤ b → Wrote b at xs l l' r
-wrote-within w h = record { put = w.put; short = omega (arith, w.short) }
+pub wrote_within : {a b at r : ℕ} {xs l l' : List ℕ} → Wrote a at xs l l' r → a ≤ b → Wrote b at xs l l' r
+wrote_within w h = record { put = w.put; short = omega (arith, w.short) }
 
 -- what has room stays within the buffer
-pub wrote-inside : {most r : ℕ} {xs l l' : List ℕ} → Wrote most 0 xs l l' r → most ≤ length l → r ≤ length l'
-wrote-inside w h = omega (arith, w.put.end, w.short, wrote-length w)
+pub wrote_inside : {most r : ℕ} {xs l l' : List ℕ} → Wrote most 0 xs l l' r → most ≤ length l → r ≤ length l'
+wrote_inside w h = omega (arith, w.put.end, w.short, wrote_length w)
 
 -- one part after another: the buffer is as long as it was
 module _ {a b at mid r : ℕ} {l l₁ l₂ : List ℕ} (long : length l ≤ farthest) where
   pub part_then : {xs ys : List ℕ} → Wrote a at xs l l₁ mid → (length l₁ ≤ farthest → Wrote b mid ys l₁ l₂ r) → Wrote (a + b) at (xs ++ ys) l l₂ r
-  part_then w v = wrote_then long w (v (rw (wrote-length w) long))
+  part_then w v = wrote_then long w (v (rw (wrote_length w) long))
 
   -- words and a depth, before what follows
-  pub say-then :
+  pub say_then :
       (words : List ℕ) (depth : ℕ) (rest : List ℕ) → Wrote a at (words ++ inches depth) l l₁ mid → (length l₁ ≤ farthest → Wrote b mid rest l₁ l₂ r)
       → Wrote (a + b) at (say words depth rest) l l₂ r
   unfolding say
-  say-then words depth rest w v = rw (← append_assoc words (inches depth) rest) (part_then w v)
+  say_then words depth rest w v = rw (← append_assoc words (inches depth) rest) (part_then w v)
 
   -- two of them
   pub two_then :

@@ -1,20 +1,20 @@
 -- What a day prints, and whether the run goes on.
 use Rattle.std.specs.Prelude.{List, ◌≡◌, ℕ, ◌≤◌, get_or}
 use Rattle.paper.specs.CellDay as paper
-use Rattle.paper.specs.Day.{nextState, figuresOf}
-use Rattle.paper.specs.Reasons.{Explanation, because, byRefusal, whyOf}
+use Rattle.paper.specs.Day.{next_state, figures_of}
+use Rattle.paper.specs.Reasons.{Explanation, because, by_refusal, why_of}
 use Rattle.paper.specs.Setup.{Setup}
 use Rattle.paper.specs.State.{State, Day}
 use Rattle.lines.specs.Lines.{refusal}
 use Rattle.words.specs.Writing.{Wrote}
 use Rattle.lines.specs.declared.telling.Told.{Told}
 use Rattle.lines.specs.declared.telling.Told.TheVariants.{More, Last}
-use Rattle.explained.specs.Lines.{reasonLine, whyLines, mostReasonLine, mostLines}
+use Rattle.explained.specs.Lines.{reason_line, why_lines, most_reason_line, most_lines}
 use Rattle.explained.specs.declared.day_lines.Figures.{Figures}
 
 -- a cell's figures as the paper's
-abbrev pub figuresAs : Figures → paper.Figures
-figuresAs f =
+abbrev pub figures_as : Figures → paper.Figures
+figures_as f =
     record {
       intercepted = f.intercepted;
       outflow = f.outflow;
@@ -26,25 +26,25 @@ figuresAs f =
     }
 
 -- a refusal ends the run
-unfoldable pub toldIn : Explanation → ℕ → Told
-toldIn (because reason a b) next = More next
-toldIn (byRefusal why) next = Last next
+unfoldable pub told_in : Explanation → ℕ → Told
+told_in (because reason a b) next = More next
+told_in (by_refusal why) next = Last next
 
 -- the reason's line alone, or the refusal
-unfoldable pub reasonOrRefusal : ℕ → Explanation → List ℕ
-reasonOrRefusal serial (because reason a b) = reasonLine serial reason a b
-reasonOrRefusal serial (byRefusal why) = refusal why
+unfoldable pub reason_or_refusal : ℕ → Explanation → List ℕ
+reason_or_refusal serial (because reason a b) = reason_line serial reason a b
+reason_or_refusal serial (by_refusal why) = refusal why
 
 pub record TellsReason (serial : ℕ) (e : Explanation) (before after : List ℕ) (r : Told) : Type 0 where
   pub next : ℕ
-  pub result : r ≡ toldIn e next
-  pub line : Wrote mostReasonLine 0 (reasonOrRefusal serial e) before after next
+  pub result : r ≡ told_in e next
+  pub line : Wrote most_reason_line 0 (reason_or_refusal serial e) before after next
 
 -- both lines, or the refusal, from the buffer's front on
 pub record Tells (serial : ℕ) (e : Explanation) (figures : paper.Figures) (before after : List ℕ) (r : Told) : Type 0 where
   pub next : ℕ
-  pub result : r ≡ toldIn e next
-  pub lines : Wrote mostLines 0 (whyLines serial e figures) before after next
+  pub result : r ≡ told_in e next
+  pub lines : Wrote most_lines 0 (why_lines serial e figures) before after next
 
 -- what was told lies within so many bytes
 abbrev pub Inside : Told → ℕ → Type 0
@@ -52,8 +52,8 @@ Inside (More next) long = next ≤ long
 Inside (Last next) long = next ≤ long
 
 -- what seven lists hold of a cell
-unfoldable pub figuresBy : List ℕ → List ℕ → List ℕ → List ℕ → List ℕ → List ℕ → List ℕ → ℕ → paper.Figures
-figuresBy intercepted outflow evapotranspired recharged rejected soil snow i =
+unfoldable pub figures_by : List ℕ → List ℕ → List ℕ → List ℕ → List ℕ → List ℕ → List ℕ → ℕ → paper.Figures
+figures_by intercepted outflow evapotranspired recharged rejected soil snow i =
     record {
       intercepted = get_or intercepted i 0;
       outflow = get_or outflow i 0;
@@ -65,11 +65,11 @@ figuresBy intercepted outflow evapotranspired recharged rejected soil snow i =
     }
 
 -- the state at the day's end; a day that is refused changes nothing
-unfoldable pub stateAfter : Setup → State → Day → Explanation → State
-stateAfter s st d (because reason a b) = nextState s st d (figuresOf s st d)
-stateAfter s st d (byRefusal why) = st
+unfoldable pub state_after : Setup → State → Day → Explanation → State
+state_after s st d (because reason a b) = next_state s st d (figures_of s st d)
+state_after s st d (by_refusal why) = st
 
 -- a day of a setup from a state on: the lines say why the cell got its figures by the rules, and the figures
 pub record DayTold (s : Setup) (st : State) (d : Day) (cell : ℕ) (st' : State) (before after : List ℕ) (r : Told) : Type 0 where
-  pub lines : Tells d.serial (whyOf s st d cell) (figuresOf s st d cell) before after r
-  pub state : st' ≡ stateAfter s st d (whyOf s st d cell)
+  pub lines : Tells d.serial (why_of s st d cell) (figures_of s st d cell) before after r
+  pub state : st' ≡ state_after s st d (why_of s st d cell)

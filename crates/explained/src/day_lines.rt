@@ -1,10 +1,10 @@
 // The two lines of a day: why the cell got its figures, and the figures.
 ghost use Rattle.std.specs.Prelude.{◌++◌, ◌+◌, length};
 ghost use Rattle.words.specs.Writing.{Wrote};
-ghost use Rattle.reasons.specs.Whys.{whyAs};
+ghost use Rattle.reasons.specs.Whys.{why_as};
 ghost use Rattle.words.specs.Digits.{digits, bytes};
-ghost use Rattle.explained.specs.Lines.{say as saying, lineEnd, figuresLine, mostSerial, mostFiguresLine};
-ghost use Rattle.explained.specs.Telling.{figuresAs, TellsReason};
+ghost use Rattle.explained.specs.Lines.{say as saying, line_end, figures_line, most_serial, most_figures_line};
+ghost use Rattle.explained.specs.Telling.{figures_as, TellsReason};
 
 use crate::saying::{say, say_two};
 use lines::{Told, refusal};
@@ -16,7 +16,7 @@ use words::{put_bytes, put_number};
 pub const MOST_LINES: usize = 433;
 
 // A cell's day, in units.
-#[derive(Drop)]
+#[derive(Clone, Copy)]
 pub(crate) struct Figures {
     pub(crate) intercepted: u64,
     pub(crate) outflow: u64,
@@ -36,8 +36,8 @@ fn reason_line(
     beside: &[u8],
     second: u64,
 ) -> usize
-    ensures { Wrote (length words.now + length beside.now + mostSerial) 0
-        (bytes "serial " ++ (digits serial ++ (bytes ": " ++ saying words.now depth (saying beside.now second lineEnd))))
+    ensures { Wrote (length words.now + length beside.now + most_serial) 0
+        (bytes "serial " ++ (digits serial ++ (bytes ": " ++ saying words.now depth (saying beside.now second line_end))))
         buffer.old buffer.new result }
 {
     let a = put_bytes(buffer, 0, b"serial ");
@@ -49,7 +49,7 @@ fn reason_line(
 
 // The reason's line, or the refusal that explains a refused day.
 pub(crate) fn tell_reason(buffer: &mut [u8], serial: u32, why: Why) -> Told
-    ensures { TellsReason serial (whyAs why) buffer.old buffer.new result }
+    ensures { TellsReason serial (why_as why) buffer.old buffer.new result }
 {
     match why {
         Why::OpenWater(gross, inflow) => Told::More(reason_line(
@@ -114,7 +114,7 @@ pub(crate) fn tell_reason(buffer: &mut [u8], serial: u32, why: Why) -> Told
 
 // The figures' line.
 pub(crate) fn figures_line(buffer: &mut [u8], at: usize, figures: Figures) -> usize
-    ensures { Wrote mostFiguresLine at (figuresLine (figuresAs figures)) buffer.old buffer.new result }
+    ensures { Wrote most_figures_line at (figures_line (figures_as figures)) buffer.old buffer.new result }
 {
     let a = say_two(
         buffer,

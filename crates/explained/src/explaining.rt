@@ -1,9 +1,9 @@
 // One day: why the cell got its figures, by the state before it, and the figures that the day left.
 ghost use Rattle.std.specs.Prelude.{◌≡◌};
-ghost use Rattle.records.specs.Grids.{setupAs};
-ghost use Rattle.records.specs.Past.{stateAs};
-ghost use Rattle.records.specs.Days.{dayAs};
-ghost use Rattle.explained.specs.Telling.{figuresAs, figuresBy, DayTold};
+ghost use Rattle.records.specs.Grids.{setup_as};
+ghost use Rattle.records.specs.Past.{state_as};
+ghost use Rattle.records.specs.Days.{day_as};
+ghost use Rattle.explained.specs.Telling.{figures_as, figures_by, DayTold};
 
 use crate::day_lines::{Figures, figures_line, tell_reason};
 use lines::Told;
@@ -11,7 +11,7 @@ use records::{Climate, DayRecord, Grid, MOST_CELLS, Past, wide};
 use text::number_at;
 
 // What a day printed, and what the next one remembers.
-#[derive(Drop)]
+#[derive(Clone, Copy)]
 pub struct Explained {
     pub told: Told,
     pub past: Past,
@@ -28,7 +28,7 @@ fn figures_at(
     snow: &[u32],
     cell: usize,
 ) -> Figures
-    ensures { figuresAs result ≡ figuresBy intercepted.now outflow.now evapotranspired.now recharged.now
+    ensures { figures_as result ≡ figures_by intercepted.now outflow.now evapotranspired.now recharged.now
         rejected.now soil.now snow.now cell }
 {
     Figures {
@@ -60,9 +60,9 @@ pub fn explain_day(
     buffer: &mut [u8],
 ) -> Explained
     ensures { DayTold
-        (setupAs grid climate covers.now direction.now cover.now group.now water.now)
-        (stateAs soil.old snow.old past) (dayAs day) cell
-        (stateAs soil.new snow.new result.past) buffer.old buffer.new result.told }
+        (setup_as grid climate covers.now direction.now cover.now group.now water.now)
+        (state_as soil.old snow.old past) (day_as day) cell
+        (state_as soil.new snow.new result.past) buffer.old buffer.new result.told }
 {
     let why = reasons::why(
         grid, climate, covers, direction, cover, group, water, soil, snow, past, day, cell,

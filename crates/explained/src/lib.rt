@@ -1,4 +1,6 @@
 // A day explained (M-105): why a cell got its figures, and the figures, as two lines in inches.
+#![tactic(auto)]
+
 mod day_lines;
 mod explaining;
 mod saying;

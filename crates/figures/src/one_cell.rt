@@ -21,7 +21,7 @@ pub(crate) const ONE_CELL: Grid = Grid {
 };
 
 // What a day leaves of the cell.
-#[derive(Drop)]
+#[derive(Clone, Copy)]
 pub(crate) struct Cell {
     pub(crate) outflow: u32,
     pub(crate) soil: u32,
@@ -29,7 +29,7 @@ pub(crate) struct Cell {
     pub(crate) frost: u64,
 }
 
-#[derive(Drop)]
+#[derive(Clone, Copy)]
 pub(crate) struct Ground {
     pub(crate) curve: u32,
     pub(crate) root: u32,

@@ -10,16 +10,16 @@ use lib.Dec.{eqb, leb, ltb}
 use lib.IntN.{ℤ}
 use lib.ListN.{length, get_or}
 use borrow.Author.Tests.{ltb-false, leb-true, eqb-true}
-use Rattle.theory.proofs.Cases.{byCases, and_left, and_right}
-use Rattle.paper.specs.Limits.{mostCells}
-use Rattle.paper.specs.Setup.{cells_of, gridFits}
-use Rattle.grids.specs.Measures.{isMeasure}
-use Rattle.grids.specs.Headers.{Header, wholeFits, headerFits}
-use Rattle.grids.specs.Cells.{cellFits, isSame, passing}
+use Rattle.theory.proofs.Cases.{by_cases, and_left, and_right}
+use Rattle.paper.specs.Limits.{most_cells}
+use Rattle.paper.specs.Setup.{cells_of, grid_fits}
+use Rattle.grids.specs.Measures.{is_measure}
+use Rattle.grids.specs.Headers.{Header, whole_fits, header_fits}
+use Rattle.grids.specs.Cells.{cell_fits, is_same, passing}
 use Rattle.grids.specs.Judging.{accepted, refused, judged}
 
 pub record Fit (h : Header) (passing count : ℕ) (enough : Bool) : Type 0 where
-  pub header : headerFits h ≡ true
+  pub header : header_fits h ≡ true
   pub passed : count ≤ passing
   pub counted : count ≡ cells_of h.grid
   pub room : enough ≡ true
@@ -31,11 +31,11 @@ module _ (h : Header) (passing count : ℕ) (enough : Bool) where
   pub fit : judged h passing count enough ≡ accepted → Fit h passing count enough
   unfolding judged
   fit agreed =
-      byCases (headerFits h)
+      by_cases (header_fits h)
       (λ a.
-      byCases (ltb passing count) (λ b. absurd (never passing (rw (a, b) at agreed)))
+      by_cases (ltb passing count) (λ b. absurd (never passing (rw (a, b) at agreed)))
       (λ b.
-      byCases (eqb count (cells_of h.grid) && enough)
+      by_cases (eqb count (cells_of h.grid) && enough)
       (λ c.
       record {
         header = a;
@@ -47,16 +47,16 @@ module _ (h : Header) (passing count : ℕ) (enough : Bool) where
       (λ a. absurd (never 0 (rw a at agreed)))
 
   -- and so it is wherever there is room
-  pub with-room : judged h passing count enough ≡ accepted → judged h passing count true ≡ accepted
-  with-room agreed = rw (fit agreed).room at agreed
+  pub with_room : judged h passing count enough ≡ accepted → judged h passing count true ≡ accepted
+  with_room agreed = rw (fit agreed).room at agreed
 
   -- whether there is room has a say only of as many cells as the grid has
-  pub same-room : (other : Bool) → (headerFits h ≡ true → count ≡ cells_of h.grid → enough ≡ other) → judged h passing count enough ≡ judged h passing count other
+  pub same_room : (other : Bool) → (header_fits h ≡ true → count ≡ cells_of h.grid → enough ≡ other) → judged h passing count enough ≡ judged h passing count other
   unfolding judged
-  same-room other same =
-      byCases (headerFits h)
+  same_room other same =
+      by_cases (header_fits h)
       (λ a.
-      byCases (eqb count (cells_of h.grid)) (λ b. rw (same a (eqb-true count (cells_of h.grid) b)) refl) (λ b. rw b refl))
+      by_cases (eqb count (cells_of h.grid)) (λ b. rw (same a (eqb-true count (cells_of h.grid) b)) refl) (λ b. rw b refl))
       (λ a. rw a refl)
 
 -- ---- the tests of several, which `◌&&◌` joins from the first on
@@ -79,22 +79,22 @@ each_of first (b ∷ bs) (suc i) e = each_of (first && b) bs i e
 pub record HeaderFit (h : Header) : Type 0 where
   pub wide : 1 ≤ h.grid.width
   pub high : 1 ≤ h.grid.height
-  pub size : h.grid.width * h.grid.height ≤ mostCells
-  pub x : isMeasure h.xCorner ≡ true
-  pub y : isMeasure h.yCorner ≡ true
-  pub cell : isMeasure h.cellSize ≡ true
-  pub none : wholeFits h.noData ≡ true
+  pub size : h.grid.width * h.grid.height ≤ most_cells
+  pub x : is_measure h.x_corner ≡ true
+  pub y : is_measure h.y_corner ≡ true
+  pub cell : is_measure h.cell_size ≡ true
+  pub none : whole_fits h.no_data ≡ true
 
-pub header-fit : (h : Header) → headerFits h ≡ true → HeaderFit h
-unfolding headerFits gridFits cells_of all_of
-header-fit h e =
+pub header_fit : (h : Header) → header_fits h ≡ true → HeaderFit h
+unfolding header_fits grid_fits cells_of all_of
+header_fit h e =
     let g = h.grid in
-    let tests = gridFits g ∷ isMeasure h.xCorner ∷ isMeasure h.yCorner ∷ isMeasure h.cellSize ∷ wholeFits h.noData ∷ [] in
-    let sizes = leb 1 g.width ∷ leb 1 g.height ∷ leb (cells_of g) mostCells ∷ [] in
+    let tests = grid_fits g ∷ is_measure h.x_corner ∷ is_measure h.y_corner ∷ is_measure h.cell_size ∷ whole_fits h.no_data ∷ [] in
+    let sizes = leb 1 g.width ∷ leb 1 g.height ∷ leb (cells_of g) most_cells ∷ [] in
     record {
       wide = leb-true 1 g.width (each_of true sizes 0 (each_of true tests 0 e));
       high = leb-true 1 g.height (each_of true sizes 1 (each_of true tests 0 e));
-      size = leb-true (cells_of g) mostCells (each_of true sizes 2 (each_of true tests 0 e));
+      size = leb-true (cells_of g) most_cells (each_of true sizes 2 (each_of true tests 0 e));
       x = each_of true tests 1 e;
       y = each_of true tests 2 e;
       cell = each_of true tests 3 e;
@@ -102,15 +102,15 @@ header-fit h e =
     }
 
 -- ---- cells that all pass: the first does, and so do those after it
-module _ (noData z : ℤ) (zs : List ℤ) (all : length (z ∷ zs) ≤ passing (cellFits noData) (z ∷ zs)) where
-  passes : cellFits noData z ≡ true
+module _ (no_data z : ℤ) (zs : List ℤ) (all : length (z ∷ zs) ≤ passing (cell_fits no_data) (z ∷ zs)) where
+  passes : cell_fits no_data z ≡ true
   unfolding passing
-  passes = byCases (cellFits noData z) (λ e. e) (λ e. absurd (not-suc-le-zero (rw e at all)))
+  passes = by_cases (cell_fits no_data z) (λ e. e) (λ e. absurd (not-suc-le-zero (rw e at all)))
 
-  pub first-whole : wholeFits z ≡ true
-  unfolding cellFits
-  first-whole = and_left (wholeFits z) (not (isSame z noData)) passes
+  pub first_whole : whole_fits z ≡ true
+  unfolding cell_fits
+  first_whole = and_left (whole_fits z) (not (is_same z no_data)) passes
 
-  pub rest-pass : length zs ≤ passing (cellFits noData) zs
+  pub rest_pass : length zs ≤ passing (cell_fits no_data) zs
   unfolding passing
-  rest-pass = le_of_suc-le-suc (rw passes at all)
+  rest_pass = le_of_suc-le-suc (rw passes at all)

@@ -10,114 +10,114 @@ use lib.IntN.{ℤ}
 use lib.ListN.{length, drop}
 use lib.Seq.{sets}
 use borrow.Author.Tests.{leb-true}
-use Rattle.theory.proofs.Cases.{byCases}
+use Rattle.theory.proofs.Cases.{by_cases}
 use Rattle.paper.specs.Setup.{cells_of}
 use Rattle.words.specs.Words.{words}
 use Rattle.words.specs.Writing.{farthest, Wrote}
-use Rattle.words.proofs.WritingLaws.{sets-out}
-use Rattle.grids.specs.Measures.{mostCharacters}
-use Rattle.grids.specs.Headers.{Header, headerFits, no_header, word_at, named, valuesIn, headerOf}
+use Rattle.words.proofs.WritingLaws.{sets_out}
+use Rattle.grids.specs.Measures.{most_characters}
+use Rattle.grids.specs.Headers.{Header, header_fits, no_header, word_at, named, values_in, header_of}
 use Rattle.grids.specs.Spans.{WordAt}
-use Rattle.grids.specs.Cells.{wholes, cells_in, cellFits, passing}
-use Rattle.grids.specs.Judging.{Verdict, accepted, refused, judged, onAccepted}
-use Rattle.grids.specs.Forms.{mostHeader, mostDepth}
-use Rattle.grids.specs.Reading.{headerRead, cellsRead, readVerdict}
-use Rattle.grids.specs.Given.{headerAs, headerIn, verdictAs, Reads, Writes}
+use Rattle.grids.specs.Cells.{wholes, cells_in, cell_fits, passing}
+use Rattle.grids.specs.Judging.{Verdict, accepted, refused, judged, on_accepted}
+use Rattle.grids.specs.Forms.{most_header, most_depth}
+use Rattle.grids.specs.Reading.{header_read, cells_read, read_verdict}
+use Rattle.grids.specs.Given.{header_as, header_in, verdict_as, Reads, Writes}
 use Rattle.grids.specs.declared.headers.Header as code
 use Rattle.grids.specs.declared.judging.GridVerdict.{GridVerdict}
 use Rattle.grids.specs.declared.judging.GridVerdict.TheVariants.{Accepted, Refused}
-use Rattle.grids.proofs.MeasureLaws.{text-back, measured-few}
-use Rattle.grids.proofs.AcceptedLaws.{fit, same-room, header-fit}
+use Rattle.grids.proofs.MeasureLaws.{text_back, measured_few}
+use Rattle.grids.proofs.AcceptedLaws.{fit, same_room, header_fit}
 
 -- written into nothing
-pub into-nothing : {most end : ℕ} {form rest : List ℕ} → Wrote most 0 form [] rest end → rest ≡ []
-into-nothing {form = form} w = w.put.buffer ∙ sets-out form [] 0 (omega arith)
+pub into_nothing : {most end : ℕ} {form rest : List ℕ} → Wrote most 0 form [] rest end → rest ≡ []
+into_nothing {form = form} w = w.put.buffer ∙ sets_out form [] 0 (omega arith)
 
-few_bytes : (h : Header) (count long : ℕ) → headerFits h ≡ true → count ≡ cells_of h.grid → long ≤ mostHeader + mostDepth * count → long < farthest
+few_bytes : (h : Header) (count long : ℕ) → header_fits h ≡ true → count ≡ cells_of h.grid → long ≤ most_header + most_depth * count → long < farthest
 unfolding cells_of
-few_bytes h count long good e short = omega (arith, (header-fit h good).size, e, short)
+few_bytes h count long good e short = omega (arith, (header_fit h good).size, e, short)
 
-pub form-judged :
+pub form_judged :
     {most end : ℕ} {form rest : List ℕ} (h : Header) (pass count : ℕ) (text : List ℕ) → Wrote most 0 form [] rest end
-    → length form ≤ mostHeader + mostDepth * count
+    → length form ≤ most_header + most_depth * count
     → judged h pass count (leb end (length (rest ++ text))) ≡ judged h pass count (leb (length form) (length text))
-form-judged {end = end} {form = form} h pass count text w short =
-    rw (into-nothing w)
-    (same-room h pass count (leb end (length text)) (leb (length form) (length text))
+form_judged {end = end} {form = form} h pass count text w short =
+    rw (into_nothing w)
+    (same_room h pass count (leb end (length text)) (leb (length form) (length text))
     (λ good e. let near = few_bytes h count (length form) good e short in ap (λ (n : ℕ). leb n (length text)) (omega (arith, w.put.end, near))))
 
-module _ (verdict : Verdict) (form before after : List ℕ) (v : GridVerdict) (says : verdictAs v ≡ verdict) where
-  pub writes-yes :
+module _ (verdict : Verdict) (form before after : List ℕ) (v : GridVerdict) (says : verdict_as v ≡ verdict) where
+  pub writes_yes :
       {most count : ℕ} → v ≡ Accepted → length form ≤ length before → length before ≤ farthest → Wrote most 0 form before after count
       → Writes verdict form before after (record { verdict = v; count = count })
-  unfolding onAccepted
-  writes-yes e fits long w =
-      let taken : verdict ≡ accepted = sym says ∙ ap verdictAs e in
+  unfolding on_accepted
+  writes_yes e fits long w =
+      let taken : verdict ≡ accepted = sym says ∙ ap verdict_as e in
       record { judged = says; count = rw taken (omega (arith, w.put.end)); bytes = rw taken w.put.buffer }
 
-  pub writes-no : (place : ℕ) → v ≡ Refused place → after ≡ before → Writes verdict form before after (record { verdict = v; count = 0 })
-  unfolding onAccepted
-  writes-no place e same =
-      let left : verdict ≡ refused place = sym says ∙ ap verdictAs e in
+  pub writes_no : (place : ℕ) → v ≡ Refused place → after ≡ before → Writes verdict form before after (record { verdict = v; count = 0 })
+  unfolding on_accepted
+  writes_no place e same =
+      let left : verdict ≡ refused place = sym says ∙ ap verdict_as e in
       record { judged = says; count = rw left refl; bytes = rw left same }
 
 -- an accepted verdict says that there is room
-pub room-enough : (h : Header) (pass count need room : ℕ) (v : GridVerdict) → verdictAs v ≡ judged h pass count (leb need room) → v ≡ Accepted → need ≤ room
-room-enough h pass count need room v says e = leb-true need room (fit h pass count (leb need room) (sym says ∙ ap verdictAs e)).room
+pub room_enough : (h : Header) (pass count need room : ℕ) (v : GridVerdict) → verdict_as v ≡ judged h pass count (leb need room) → v ≡ Accepted → need ≤ room
+room_enough h pass count need room v says e = leb-true need room (fit h pass count (leb need room) (sym says ∙ ap verdict_as e)).room
 
 -- the header that is read is the paper's
-pub header-back : (ws : List (List ℕ)) → headerAs (headerIn (headerOf ws)) ≡ headerOf ws
-unfolding headerOf valuesIn
-header-back ws =
-    byCases (named ws)
-    (λ e. rw (e, text-back _ (measured-few (word_at ws 5)), text-back _ (measured-few (word_at ws 7)), text-back _ (measured-few (word_at ws 9))) refl)
-    (λ e. rw (e, text-back [] (omega arith)) refl)
+pub header_back : (ws : List (List ℕ)) → header_as (header_in (header_of ws)) ≡ header_of ws
+unfolding header_of values_in
+header_back ws =
+    by_cases (named ws)
+    (λ e. rw (e, text_back _ (measured_few (word_at ws 5)), text_back _ (measured_few (word_at ws 7)), text_back _ (measured_few (word_at ws 9))) refl)
+    (λ e. rw (e, text_back [] (omega arith)) refl)
 
 -- and its texts are short
 pub record Short (h : Header) : Type 0 where
-  pub x : length h.xCorner ≤ mostCharacters
-  pub y : length h.yCorner ≤ mostCharacters
-  pub cell : length h.cellSize ≤ mostCharacters
+  pub x : length h.x_corner ≤ most_characters
+  pub y : length h.y_corner ≤ most_characters
+  pub cell : length h.cell_size ≤ most_characters
 
 no_short : Short no_header
 no_short = record { x = omega arith; y = omega arith; cell = omega arith }
 
-read_short : (ws : List (List ℕ)) → Short (headerOf ws)
-unfolding headerOf valuesIn
+read_short : (ws : List (List ℕ)) → Short (header_of ws)
+unfolding header_of values_in
 read_short ws =
-    byCases (named ws) (λ e. rw e (record { x = measured-few (word_at ws 5); y = measured-few (word_at ws 7); cell = measured-few (word_at ws 9) }))
+    by_cases (named ws) (λ e. rw e (record { x = measured_few (word_at ws 5); y = measured_few (word_at ws 7); cell = measured_few (word_at ws 9) }))
     (λ e. rw e no_short)
 
-pub answered-short : (verdict : Verdict) (text : List ℕ) → Short (onAccepted verdict (headerRead text) no_header)
-unfolding onAccepted
-answered-short accepted text = read_short (words text)
-answered-short (refused place) text = no_short
+pub answered_short : (verdict : Verdict) (text : List ℕ) → Short (on_accepted verdict (header_read text) no_header)
+unfolding on_accepted
+answered_short accepted text = read_short (words text)
+answered_short (refused place) text = no_short
 
 module _ (text : List ℕ) (start end : ℕ) (last : WordAt text 11 start end) where
-  pub cells-after : wholes (words (drop end text)) ≡ cellsRead text
+  pub cells_after : wholes (words (drop end text)) ≡ cells_read text
   unfolding cells_in
-  cells-after = ap wholes last.after
+  cells_after = ap wholes last.after
 
-  pub read-judged :
-      (h : code.Header) (pass count room : ℕ) → h ≡ headerIn (headerRead text) → pass ≡ passing (cellFits h.no_data) (wholes (words (drop end text)))
+  pub read_judged :
+      (h : code.Header) (pass count room : ℕ) → h ≡ header_in (header_read text) → pass ≡ passing (cell_fits h.no_data) (wholes (words (drop end text)))
       → count ≡ length (wholes (words (drop end text)))
-      → judged (headerAs h) pass count (leb count room) ≡ readVerdict text room
-  unfolding readVerdict
-  read-judged h pass count room eh ep ec = rw (ep, ec, cells-after, eh, header-back (words text)) refl
+      → judged (header_as h) pass count (leb count room) ≡ read_verdict text room
+  unfolding read_verdict
+  read_judged h pass count room eh ep ec = rw (ep, ec, cells_after, eh, header_back (words text)) refl
 
-module _ (text : List ℕ) (before after : List ℤ) (v : GridVerdict) (says : verdictAs v ≡ readVerdict text (length before)) where
-  pub reads-yes :
-      (h : code.Header) → v ≡ Accepted → h ≡ headerIn (headerRead text) → after ≡ sets before 0 (cellsRead text)
+module _ (text : List ℕ) (before after : List ℤ) (v : GridVerdict) (says : verdict_as v ≡ read_verdict text (length before)) where
+  pub reads_yes :
+      (h : code.Header) → v ≡ Accepted → h ≡ header_in (header_read text) → after ≡ sets before 0 (cells_read text)
       → Reads text before after (record { verdict = v; header = h })
-  unfolding onAccepted
-  reads-yes h e header cells =
-      let taken : readVerdict text (length before) ≡ accepted = sym says ∙ ap verdictAs e in
+  unfolding on_accepted
+  reads_yes h e header cells =
+      let taken : read_verdict text (length before) ≡ accepted = sym says ∙ ap verdict_as e in
       record { verdict = says; header = rw taken header; cells = rw taken cells }
 
-  pub reads-no :
-      (h : code.Header) (place : ℕ) → v ≡ Refused place → h ≡ headerIn no_header → after ≡ before
+  pub reads_no :
+      (h : code.Header) (place : ℕ) → v ≡ Refused place → h ≡ header_in no_header → after ≡ before
       → Reads text before after (record { verdict = v; header = h })
-  unfolding onAccepted
-  reads-no h place e header same =
-      let left : readVerdict text (length before) ≡ refused place = sym says ∙ ap verdictAs e in
+  unfolding on_accepted
+  reads_no h place e header same =
+      let left : read_verdict text (length before) ≡ refused place = sym says ∙ ap verdict_as e in
       record { verdict = says; header = rw left header; cells = rw left same }

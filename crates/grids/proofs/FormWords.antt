@@ -7,29 +7,29 @@ use Prim.Native.Nat.{ℕ, suc}
 use lib.Dec.{eqb}
 use lib.IntN.{ℤ}
 use lib.Seq.{append_snoc}
-use Rattle.theory.proofs.Cases.{byCases}
-use Rattle.words.specs.Words.{isBlank, longer, pieces, kept, words}
+use Rattle.theory.proofs.Cases.{by_cases}
+use Rattle.words.specs.Words.{is_blank, longer, pieces, kept, words}
 use Rattle.words.specs.Digits.{digits, written, bytes}
-use Rattle.words.proofs.SolidLaws.{words-first, figures-word, digits-word, written-word}
-use Rattle.grids.specs.Measures.{isMeasure}
-use Rattle.grids.specs.Headers.{Header, headerFits}
-use Rattle.grids.specs.Forms.{nameLine, headerForm, blankAfter, doneAfter, rows, gridForm, wholeForm}
-use Rattle.grids.proofs.MeasureForm.{measure-figures}
-use Rattle.grids.proofs.AcceptedLaws.{header-fit}
+use Rattle.words.proofs.SolidLaws.{words_first, figures_word, digits_word, written_word}
+use Rattle.grids.specs.Measures.{is_measure}
+use Rattle.grids.specs.Headers.{Header, header_fits}
+use Rattle.grids.specs.Forms.{name_line, header_form, blank_after, done_after, rows, grid_form, whole_form}
+use Rattle.grids.proofs.MeasureForm.{measure_figures}
+use Rattle.grids.proofs.AcceptedLaws.{header_fit}
 
 abbrev pub words_of : {A : Type 0} → (A → List ℕ) → Header → List A → List (List ℕ)
 words_of form h xs =
     bytes "ncols" ∷ digits h.grid.width
     ∷ bytes "nrows" ∷ digits h.grid.height
-    ∷ bytes "xllcorner" ∷ h.xCorner
-    ∷ bytes "yllcorner" ∷ h.yCorner
-    ∷ bytes "cellsize" ∷ h.cellSize
-    ∷ bytes "nodata_value" ∷ written h.noData
+    ∷ bytes "xllcorner" ∷ h.x_corner
+    ∷ bytes "yllcorner" ∷ h.y_corner
+    ∷ bytes "cellsize" ∷ h.cell_size
+    ∷ bytes "nodata_value" ∷ written h.no_data
     ∷ map form xs
 
-blank-after : (columns done : ℕ) → isBlank (blankAfter columns done) ≡ true
-unfolding blankAfter isBlank
-blank-after columns done = byCases (eqb done columns) (λ e. rw e refl) (λ e. rw e refl)
+blank_after_lem : (columns done : ℕ) → is_blank (blank_after columns done) ≡ true
+unfolding blank_after is_blank
+blank_after_lem columns done = by_cases (eqb done columns) (λ e. rw e refl) (λ e. rw e refl)
 
 rows_words :
     {A : Type 0} (form : A → List ℕ) (columns done : ℕ) (xs : List A) → ((x : A) → words (form x) ≡ form x ∷ [])
@@ -37,40 +37,40 @@ rows_words :
 unfolding rows words pieces kept
 rows_words form columns done [] each = refl
 rows_words form columns done (x ∷ xs) each =
-    let after = rows form columns (doneAfter columns (suc done)) xs in
-    words-first (form x) (blankAfter columns (suc done)) after (blank-after columns (suc done)) (each x)
-    ∙ ap (λ (ws : List (List ℕ)). form x ∷ ws) (rows_words form columns (doneAfter columns (suc done)) xs each)
+    let after = rows form columns (done_after columns (suc done)) xs in
+    words_first (form x) (blank_after columns (suc done)) after (blank_after_lem columns (suc done)) (each x)
+    ∙ ap (λ (ws : List (List ℕ)). form x ∷ ws) (rows_words form columns (done_after columns (suc done)) xs each)
 
-line-words :
+line_words :
     (name value : List ℕ) → words name ≡ name ∷ [] → words value ≡ value ∷ [] → (rest : List ℕ)
-    → words (nameLine name value ++ rest) ≡ name ∷ value ∷ words rest
-unfolding nameLine isBlank
-line-words name value n v rest =
+    → words (name_line name value ++ rest) ≡ name ∷ value ∷ words rest
+unfolding name_line is_blank
+line_words name value n v rest =
     ap words (append_assoc name (32 ∷ (value ++ 10 ∷ [])) rest)
-    ∙ words-first name 32 ((value ++ 10 ∷ []) ++ rest) refl n
+    ∙ words_first name 32 ((value ++ 10 ∷ []) ++ rest) refl n
     ∙ ap (λ (l : List ℕ). name ∷ words l) (append_snoc value 10 rest)
-    ∙ ap (λ (ws : List (List ℕ)). name ∷ ws) (words-first value 10 rest refl v)
+    ∙ ap (λ (ws : List (List ℕ)). name ∷ ws) (words_first value 10 rest refl v)
 
-measure-word : (w : List ℕ) → isMeasure w ≡ true → words w ≡ w ∷ []
-measure-word w e = figures-word (measure-figures w e)
+measure_word : (w : List ℕ) → is_measure w ≡ true → words w ≡ w ∷ []
+measure_word w e = figures_word (measure_figures w e)
 
-pub form-words :
-    {A : Type 0} (form : A → List ℕ) (h : Header) (xs : List A) → ((x : A) → words (form x) ≡ form x ∷ []) → headerFits h ≡ true
-    → words (gridForm form h xs) ≡ words_of form h xs
-unfolding gridForm headerForm words pieces kept longer isBlank bytes
-form-words form h xs each e =
-    let f = header-fit h e in
+pub form_words :
+    {A : Type 0} (form : A → List ℕ) (h : Header) (xs : List A) → ((x : A) → words (form x) ≡ form x ∷ []) → header_fits h ≡ true
+    → words (grid_form form h xs) ≡ words_of form h xs
+unfolding grid_form header_form words pieces kept longer is_blank bytes
+form_words form h xs each e =
+    let f = header_fit h e in
     simp append_assoc
     (rw (
-      line-words (bytes "ncols") (digits h.grid.width) refl (digits-word h.grid.width),
-      line-words (bytes "nrows") (digits h.grid.height) refl (digits-word h.grid.height),
-      line-words (bytes "xllcorner") h.xCorner refl (measure-word h.xCorner f.x),
-      line-words (bytes "yllcorner") h.yCorner refl (measure-word h.yCorner f.y),
-      line-words (bytes "cellsize") h.cellSize refl (measure-word h.cellSize f.cell),
-      line-words (bytes "nodata_value") (written h.noData) refl (written-word h.noData),
+      line_words (bytes "ncols") (digits h.grid.width) refl (digits_word h.grid.width),
+      line_words (bytes "nrows") (digits h.grid.height) refl (digits_word h.grid.height),
+      line_words (bytes "xllcorner") h.x_corner refl (measure_word h.x_corner f.x),
+      line_words (bytes "yllcorner") h.y_corner refl (measure_word h.y_corner f.y),
+      line_words (bytes "cellsize") h.cell_size refl (measure_word h.cell_size f.cell),
+      line_words (bytes "nodata_value") (written h.no_data) refl (written_word h.no_data),
       rows_words form h.grid.width 0 xs each,
     )
     refl)
 
-pub whole_words : (h : Header) (cells : List ℤ) → headerFits h ≡ true → words (wholeForm h cells) ≡ words_of written h cells
-whole_words h cells e = form-words written h cells written-word e
+pub whole_words : (h : Header) (cells : List ℤ) → header_fits h ≡ true → words (whole_form h cells) ≡ words_of written h cells
+whole_words h cells e = form_words written h cells written_word e

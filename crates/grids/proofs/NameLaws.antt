@@ -10,34 +10,34 @@ use lib.IntN.{pos, negsuc}
 use lib.ListN.{length, get_or, drop, drop_of_length-le}
 use lib.Seq.{drop-cons}
 use borrow.Author.Tests.{eq-eqb, ne_eqb, leb-true}
-use Rattle.theory.proofs.Cases.{byCases, and_right}
-use Rattle.words.specs.Numbers.{Word, good, bad, meaningIn}
+use Rattle.theory.proofs.Cases.{by_cases, and_right}
+use Rattle.words.specs.Numbers.{Word, good, bad, meaning_in}
 use Rattle.words.specs.declared.numbers.Meaning.TheVariants.{Plain, Below, Bad}
-use Rattle.grids.specs.Headers.{no_header, size_of, lower, lowered, same, named, valuesIn, headerOf}
+use Rattle.grids.specs.Headers.{no_header, size_of, lower, lowered, same, named, values_in, header_of}
 
 -- a capital's small letter, and any other byte itself
-pub capital-high : (b : ℕ) → (leb 65 b && leb b 90) ≡ true → b ≤ 90
-capital-high b e = leb-true b 90 (and_right (leb 65 b) (leb b 90) e)
+pub capital_high : (b : ℕ) → (leb 65 b && leb b 90) ≡ true → b ≤ 90
+capital_high b e = leb-true b 90 (and_right (leb 65 b) (leb b 90) e)
 
-pub lower-capital : (b : ℕ) → (leb 65 b && leb b 90) ≡ true → b + 32 ≡ lower b
+pub lower_capital : (b : ℕ) → (leb 65 b && leb b 90) ≡ true → b + 32 ≡ lower b
 unfolding lower
-lower-capital b e = rw e refl
+lower_capital b e = rw e refl
 
-pub lower-other : (b : ℕ) → (leb 65 b && leb b 90) ≡ false → b ≡ lower b
+pub lower_other : (b : ℕ) → (leb 65 b && leb b 90) ≡ false → b ≡ lower b
 unfolding lower
-lower-other b e = rw e refl
+lower_other b e = rw e refl
 
 -- bytes in lower case, one by one
-pub lowered-length : (xs : List ℕ) → length (lowered xs) ≡ length xs
+pub lowered_length : (xs : List ℕ) → length (lowered xs) ≡ length xs
 unfolding lowered
-lowered-length [] = refl
-lowered-length (x ∷ xs) = ap suc (lowered-length xs)
+lowered_length [] = refl
+lowered_length (x ∷ xs) = ap suc (lowered_length xs)
 
-pub lowered-at : (xs : List ℕ) (i : ℕ) → get_or (lowered xs) i 0 ≡ lower (get_or xs i 0)
+pub lowered_at : (xs : List ℕ) (i : ℕ) → get_or (lowered xs) i 0 ≡ lower (get_or xs i 0)
 unfolding lowered lower
-lowered-at [] i = refl
-lowered-at (x ∷ xs) zero = refl
-lowered-at (x ∷ xs) (suc i) = lowered-at xs i
+lowered_at [] i = refl
+lowered_at (x ∷ xs) zero = refl
+lowered_at (x ∷ xs) (suc i) = lowered_at xs i
 
 -- two lists: of other lengths they are not the same, and from a place on they are as the bytes there say
 pub other_length : (xs ys : List ℕ) → (length xs ≡ length ys → ⊥) → same xs ys ≡ false
@@ -45,7 +45,7 @@ unfolding same
 other_length [] [] n = absurd (n refl)
 other_length [] (y ∷ ys) n = refl
 other_length (x ∷ xs) [] n = refl
-other_length (x ∷ xs) (y ∷ ys) n = byCases (eqb x y) (λ e. rw e (other_length xs ys (λ s. n (ap suc s)))) (λ e. rw e refl)
+other_length (x ∷ xs) (y ∷ ys) n = by_cases (eqb x y) (λ e. rw e (other_length xs ys (λ s. n (ap suc s)))) (λ e. rw e refl)
 
 abbrev pub left : List ℕ → List ℕ → ℕ → Bool
 left xs ys i = same (drop i xs) (drop i ys)
@@ -70,29 +70,29 @@ module _ (xs ys : List ℕ) (i : ℕ) (sized : length xs ≡ length ys) where
       rw (drop_of_length-le xs {i = i} h, drop_of_length-le ys {i = i} past) refl
 
 -- columns or rows by a word's meaning
-pub size-plain : (m : Word) (n : ℕ) → meaningIn m ≡ Plain n → n ≡ size_of m
-unfolding meaningIn size_of
-size-plain (good (pos k)) n e = cc
-size-plain (good (negsuc k)) n e = absurd (let o : ◌≡◌ {A = ℕ} 0 1 = cc in omega arith)
-size-plain bad n e = absurd (let o : ◌≡◌ {A = ℕ} 0 1 = cc in omega arith)
+pub size_plain : (m : Word) (n : ℕ) → meaning_in m ≡ Plain n → n ≡ size_of m
+unfolding meaning_in size_of
+size_plain (good (pos k)) n e = cc
+size_plain (good (negsuc k)) n e = absurd (let o : ◌≡◌ {A = ℕ} 0 1 = cc in omega arith)
+size_plain bad n e = absurd (let o : ◌≡◌ {A = ℕ} 0 1 = cc in omega arith)
 
-pub size_below : (m : Word) (n : ℕ) → meaningIn m ≡ Below n → 0 ≡ size_of m
-unfolding meaningIn size_of
+pub size_below : (m : Word) (n : ℕ) → meaning_in m ≡ Below n → 0 ≡ size_of m
+unfolding meaning_in size_of
 size_below (good (pos k)) n e = absurd (let o : ◌≡◌ {A = ℕ} 0 1 = cc in omega arith)
 size_below (good (negsuc k)) n e = refl
 size_below bad n e = absurd (let o : ◌≡◌ {A = ℕ} 0 1 = cc in omega arith)
 
-pub size-bad : (m : Word) → meaningIn m ≡ Bad → 0 ≡ size_of m
-unfolding meaningIn size_of
-size-bad (good (pos k)) e = absurd (let o : ◌≡◌ {A = ℕ} 0 1 = cc in omega arith)
-size-bad (good (negsuc k)) e = refl
-size-bad bad e = refl
+pub size_bad : (m : Word) → meaning_in m ≡ Bad → 0 ≡ size_of m
+unfolding meaning_in size_of
+size_bad (good (pos k)) e = absurd (let o : ◌≡◌ {A = ℕ} 0 1 = cc in omega arith)
+size_bad (good (negsuc k)) e = refl
+size_bad bad e = refl
 
 -- a header by its names
-pub header-named : (ws : List (List ℕ)) → named ws ≡ true → headerOf ws ≡ valuesIn ws
-unfolding headerOf
-header-named ws e = rw e refl
+pub header_named : (ws : List (List ℕ)) → named ws ≡ true → header_of ws ≡ values_in ws
+unfolding header_of
+header_named ws e = rw e refl
 
-pub header-unnamed : (ws : List (List ℕ)) → named ws ≡ false → headerOf ws ≡ no_header
-unfolding headerOf
-header-unnamed ws e = rw e refl
+pub header_unnamed : (ws : List (List ℕ)) → named ws ≡ false → header_of ws ≡ no_header
+unfolding header_of
+header_unnamed ws e = rw e refl

@@ -10,7 +10,7 @@ use lib.Seq.{get_or-drop, drop-drop}
 use Rattle.theory.proofs.Cases.{below_or_not}
 use Rattle.words.specs.Words.{words}
 use Rattle.words.specs.Spans.{part, NextWord}
-use Rattle.words.proofs.WordLaws.{none_after, end-inside}
+use Rattle.words.proofs.WordLaws.{none_after, end_inside}
 use Rattle.grids.specs.Headers.{word_at}
 use Rattle.grids.specs.Spans.{WordAt}
 
@@ -18,8 +18,8 @@ module _ (text : List ℕ) (k from start end : ℕ) (here : words (drop from tex
   at_front : word_at (drop k (words text)) 0 ≡ word_at (words text) k
   at_front = get_or-drop k (words text) 0 [] ∙ ap (word_at (words text)) (add-zero k)
 
-  past-front : drop 1 (drop k (words text)) ≡ drop (suc k) (words text)
-  past-front = drop-drop 1 k (words text) ∙ ap (λ (n : ℕ). drop n (words text)) (add-one k)
+  past_front : drop 1 (drop k (words text)) ≡ drop (suc k) (words text)
+  past_front = drop-drop 1 k (words text) ∙ ap (λ (n : ℕ). drop n (words text)) (add-one k)
 
   found : start < end → drop k (words text) ≡ part text start end ∷ words (drop end text)
   found h = sym here ∙ next.found h
@@ -37,17 +37,17 @@ module _ (text : List ℕ) (k from start end : ℕ) (here : words (drop from tex
             below_or_not start end (λ h. ap (λ (ws : List (List ℕ)). word_at ws 0) (sym (found h)) ∙ at_front)
             (λ h. empty h ∙ ap (λ (ws : List (List ℕ)). word_at ws 0) (sym (nothing h)) ∙ at_front);
         after =
-            below_or_not start end (λ h. ap (drop 1) (sym (found h)) ∙ past-front)
-            (λ h. none_after text from start end next h ∙ ap (drop 1) (sym (nothing h)) ∙ past-front);
+            below_or_not start end (λ h. ap (drop 1) (sym (found h)) ∙ past_front)
+            (λ h. none_after text from start end next h ∙ ap (drop 1) (sym (nothing h)) ∙ past_front);
         ordered = next.ordered;
-        inside = end-inside text from start end next inside;
+        inside = end_inside text from start end next inside;
       }
 
 pub word_first : (text : List ℕ) (start end : ℕ) → NextWord text 0 start end → WordAt text 0 start end
 word_first text start end next = word_next text 0 0 start end refl (omega arith) next
 
-pub word-then : (text : List ℕ) (k start end start' end' : ℕ) → WordAt text k start end → NextWord text end start' end' → WordAt text (k + 1) start' end'
-word-then text k start end start' end' w next = rw (add-one k) (word_next text (suc k) end start' end' w.after w.inside next)
+pub word_then : (text : List ℕ) (k start end start' end' : ℕ) → WordAt text k start end → NextWord text end start' end' → WordAt text (k + 1) start' end'
+word_then text k start end start' end' w next = rw (add-one k) (word_next text (suc k) end start' end' w.after w.inside next)
 
-pub word-last : (text : List ℕ) (k i start end : ℕ) → i ≤ k → k ≤ i → WordAt text i start end → WordAt text k start end
-word-last text k i start end low high w = let same : i ≡ k = omega arith in rw (← same) w
+pub word_last : (text : List ℕ) (k i start end : ℕ) → i ≤ k → k ≤ i → WordAt text i start end → WordAt text k start end
+word_last text k i start end low high w = let same : i ≡ k = omega arith in rw (← same) w

@@ -14,45 +14,45 @@ use mir.Val.{Fits, SFits, to_z, of_z}
 use mir.Facts.{to_z-of_z, to_z_pos}
 use borrow.Author.Tests.{ltb-true, lt-ltb}
 use Rattle.words.specs.Digits.{digits, written}
-use Rattle.words.specs.Numbers.{Word, good, bad, number, meaningIn}
+use Rattle.words.specs.Numbers.{Word, good, bad, number, meaning_in}
 use Rattle.words.specs.Writing.{Put, Wrote}
 use Rattle.words.specs.declared.numbers.Meaning.TheVariants.{Plain, Below, Bad}
-use Rattle.words.proofs.NumberLaws.{NineDigits, Small, number_small, plain-small, below-small}
-use Rattle.words.proofs.DigitLaws.{digits-below}
-use Rattle.words.proofs.WritingLaws.{wrote_as, wrote-bytes}
-use Rattle.grids.specs.Headers.{wholeFits, noNumber, whole_of}
-use Rattle.grids.specs.Forms.{mostFar, mostSigned}
+use Rattle.words.proofs.NumberLaws.{NineDigits, Small, number_small, plain_small, below_small}
+use Rattle.words.proofs.DigitLaws.{digits_below}
+use Rattle.words.proofs.WritingLaws.{wrote_as, wrote_bytes}
+use Rattle.grids.specs.Headers.{whole_fits, no_number, whole_of}
+use Rattle.grids.specs.Forms.{most_far, most_signed}
 
 abbrev pub read : ℤ → ℤ
 read z = to_z w32 (of_z w32 z)
 
-below-zero : (z : ℤ) → lt_z z (pos 0) ≡ true → pos 0 -ℤ z ≡ pos (nat_abs z)
-below-zero (pos n) e = absurd (omega (arith, ltb-true n 0 e))
-below-zero (negsuc m) e = ap pos (zero-add (suc m))
+below_zero : (z : ℤ) → lt_z z (pos 0) ≡ true → pos 0 -ℤ z ≡ pos (nat_abs z)
+below_zero (pos n) e = absurd (omega (arith, ltb-true n 0 e))
+below_zero (negsuc m) e = ap pos (zero-add (suc m))
 
-not-below : (z : ℤ) → lt_z z (pos 0) ≡ false → z ≡ pos (nat_abs z)
-not-below (pos n) e = refl
-not-below (negsuc m) e = absurd (let o : ◌≡◌ {A = ℕ} 0 1 = cc in omega arith)
+not_below : (z : ℤ) → lt_z z (pos 0) ≡ false → z ≡ pos (nat_abs z)
+not_below (pos n) e = refl
+not_below (negsuc m) e = absurd (let o : ◌≡◌ {A = ℕ} 0 1 = cc in omega arith)
 
-below-written : (z : ℤ) → lt_z z (pos 0) ≡ true → written z ≡ 45 ∷ digits (nat_abs z)
+below_written : (z : ℤ) → lt_z z (pos 0) ≡ true → written z ≡ 45 ∷ digits (nat_abs z)
 unfolding written
-below-written (pos n) e = absurd (omega (arith, ltb-true n 0 e))
-below-written (negsuc m) e = refl
+below_written (pos n) e = absurd (omega (arith, ltb-true n 0 e))
+below_written (negsuc m) e = refl
 
-plain-written : (z : ℤ) → lt_z z (pos 0) ≡ false → written z ≡ digits (nat_abs z)
+plain_written : (z : ℤ) → lt_z z (pos 0) ≡ false → written z ≡ digits (nat_abs z)
 unfolding written
-plain-written (pos n) e = refl
-plain-written (negsuc m) e = absurd (let o : ◌≡◌ {A = ℕ} 0 1 = cc in omega arith)
+plain_written (pos n) e = refl
+plain_written (negsuc m) e = absurd (let o : ◌≡◌ {A = ℕ} 0 1 = cc in omega arith)
 
 module _ (z : ℤ) (h : SFits w32 z) where
   pub whole : read z ≡ z
   whole = to_z-of_z h
 
-  near : nat_abs z ≤ mostFar
+  near : nat_abs z ≤ most_far
   near = nat_abs-le z h.sfits
 
-  pub fits_read : (le_z (negsuc 999999998) (read z) && le_z (read z) (pos 999999999)) ≡ wholeFits z
-  unfolding wholeFits
+  pub fits_read : (le_z (negsuc 999999998) (read z) && le_z (read z) (pos 999999999)) ≡ whole_fits z
+  unfolding whole_fits
   fits_read = rw whole refl
 
   pub wide_fits : SFits w64 (read z)
@@ -63,89 +63,89 @@ module _ (z : ℤ) (h : SFits w32 z) where
   turned = pos 0 -ℤ to_z w64 (of_z w64 (read z))
 
   module _ (p : lt_z (read z) (pos 0) ≡ true) where
-    turned-is : turned ≡ pos (nat_abs z)
-    turned-is = ap (λ (x : ℤ). pos 0 -ℤ x) (to_z-of_z wide_fits ∙ whole) ∙ below-zero z (rw whole at p)
+    turned_is : turned ≡ pos (nat_abs z)
+    turned_is = ap (λ (x : ℤ). pos 0 -ℤ x) (to_z-of_z wide_fits ∙ whole) ∙ below_zero z (rw whole at p)
 
-    pub turned-fits : SFits w64 turned
-    turned-fits = rw turned-is (record { sfits = omega (arith, near) })
+    pub turned_fits : SFits w64 turned
+    turned_fits = rw turned_is (record { sfits = omega (arith, near) })
 
-    turned-read : to_z w64 (of_z w64 turned) ≡ pos (nat_abs z)
-    turned-read = to_z-of_z turned-fits ∙ turned-is
+    turned_read : to_z w64 (of_z w64 turned) ≡ pos (nat_abs z)
+    turned_read = to_z-of_z turned_fits ∙ turned_is
 
-    pub turned-cast : T (non_neg (to_z w64 (of_z w64 turned))) × Fits w64 (nat_abs (to_z w64 (of_z w64 turned)))
-    turned-cast = rw turned-read (tt, record { fits = omega (arith, near) })
+    pub turned_cast : T (non_neg (to_z w64 (of_z w64 turned))) × Fits w64 (nat_abs (to_z w64 (of_z w64 turned)))
+    turned_cast = rw turned_read (tt, record { fits = omega (arith, near) })
 
-    pub turned-far : (nat_abs (to_z w64 (of_z w64 turned)) ≡ nat_abs z) × (nat_abs (to_z w64 (of_z w64 turned)) ≤ mostFar)
-    turned-far = rw turned-read (refl, near)
+    pub turned_far : (nat_abs (to_z w64 (of_z w64 turned)) ≡ nat_abs z) × (nat_abs (to_z w64 (of_z w64 turned)) ≤ most_far)
+    turned_far = rw turned_read (refl, near)
 
     -- a minus and at most ten digits are written
-    pub below-wrote : {at far r : ℕ} {l l' : List ℕ} → far ≡ nat_abs (read z) → Put at (45 ∷ digits far) l l' r → Wrote mostSigned at (written z) l l' r
-    below-wrote {far = far} e w =
-        wrote_as mostSigned (written z) (wrote-bytes w) (ap (λ (n : ℕ). 45 ∷ digits n) (e ∙ ap nat_abs whole) ∙ sym (below-written z (rw whole at p)))
-        (rw (below-written z (rw whole at p)) (omega (arith, digits-below 9 (nat_abs z) (omega (arith, near)))))
+    pub below_wrote : {at far r : ℕ} {l l' : List ℕ} → far ≡ nat_abs (read z) → Put at (45 ∷ digits far) l l' r → Wrote most_signed at (written z) l l' r
+    below_wrote {far = far} e w =
+        wrote_as most_signed (written z) (wrote_bytes w) (ap (λ (n : ℕ). 45 ∷ digits n) (e ∙ ap nat_abs whole) ∙ sym (below_written z (rw whole at p)))
+        (rw (below_written z (rw whole at p)) (omega (arith, digits_below 9 (nat_abs z) (omega (arith, near)))))
 
   module _ (p : lt_z (read z) (pos 0) ≡ false) where
     plain : z ≡ pos (nat_abs z)
-    plain = not-below z (rw whole at p)
+    plain = not_below z (rw whole at p)
 
-    pub plain-cast : T (non_neg (read z)) × Fits w64 (nat_abs (read z))
-    plain-cast = rw (whole, plain) (tt, record { fits = omega (arith, near) })
+    pub plain_cast : T (non_neg (read z)) × Fits w64 (nat_abs (read z))
+    plain_cast = rw (whole, plain) (tt, record { fits = omega (arith, near) })
 
-    pub plain-far : (nat_abs (read z) ≡ nat_abs z) × (nat_abs (read z) ≤ mostFar)
-    plain-far = rw whole (refl, near)
+    pub plain_far : (nat_abs (read z) ≡ nat_abs z) × (nat_abs (read z) ≤ most_far)
+    plain_far = rw whole (refl, near)
 
-    pub plain-wrote : {at far r : ℕ} {l l' : List ℕ} → far ≡ nat_abs (read z) → Put at (digits far) l l' r → Wrote mostSigned at (written z) l l' r
-    plain-wrote {far = far} e w =
-        wrote_as mostSigned (written z) (wrote-bytes w) (ap digits (e ∙ ap nat_abs whole) ∙ sym (plain-written z (rw whole at p)))
-        (rw (plain-written z (rw whole at p)) (omega (arith, digits-below 9 (nat_abs z) (omega (arith, near)))))
+    pub plain_wrote : {at far r : ℕ} {l l' : List ℕ} → far ≡ nat_abs (read z) → Put at (digits far) l l' r → Wrote most_signed at (written z) l l' r
+    plain_wrote {far = far} e w =
+        wrote_as most_signed (written z) (wrote_bytes w) (ap digits (e ∙ ap nat_abs whole) ∙ sym (plain_written z (rw whole at p)))
+        (rw (plain_written z (rw whole at p)) (omega (arith, digits_below 9 (nat_abs z) (omega (arith, near)))))
 
 -- what a word means, by its meaning
-whole_plain : (m : Word) (n : ℕ) → meaningIn m ≡ Plain n → pos n ≡ whole_of m
-unfolding meaningIn whole_of
+whole_plain : (m : Word) (n : ℕ) → meaning_in m ≡ Plain n → pos n ≡ whole_of m
+unfolding meaning_in whole_of
 whole_plain (good (pos k)) n e = cc
 whole_plain (good (negsuc k)) n e = absurd (let o : ◌≡◌ {A = ℕ} 0 1 = cc in omega arith)
 whole_plain bad n e = absurd (let o : ◌≡◌ {A = ℕ} 0 1 = cc in omega arith)
 
-whole_below : (m : Word) (n : ℕ) → meaningIn m ≡ Below n → pos 0 -ℤ pos n ≡ whole_of m
-unfolding meaningIn whole_of
+whole_below : (m : Word) (n : ℕ) → meaning_in m ≡ Below n → pos 0 -ℤ pos n ≡ whole_of m
+unfolding meaning_in whole_of
 whole_below (good (pos k)) n e = absurd (let o : ◌≡◌ {A = ℕ} 0 1 = cc in omega arith)
-whole_below (good (negsuc k)) n e = let same : suc k ≡ n = cc in rw (← same) (less-suc k)
+whole_below (good (negsuc k)) n e = let same : suc k ≡ n = cc in rw (← same) (less_suc k)
   where
-    less-suc : (k : ℕ) → pos 0 -ℤ pos (suc k) ≡ negsuc k
-    less-suc k = rw (lt-ltb 0 (suc k) (omega arith)) (ap negsuc (omega arith))
+    less_suc : (k : ℕ) → pos 0 -ℤ pos (suc k) ≡ negsuc k
+    less_suc k = rw (lt-ltb 0 (suc k) (omega arith)) (ap negsuc (omega arith))
 whole_below bad n e = absurd (let o : ◌≡◌ {A = ℕ} 0 1 = cc in omega arith)
 
-pub whole-bad : (m : Word) → meaningIn m ≡ Bad → noNumber ≡ whole_of m
-unfolding meaningIn whole_of
-whole-bad (good (pos k)) e = absurd (let o : ◌≡◌ {A = ℕ} 0 1 = cc in omega arith)
-whole-bad (good (negsuc k)) e = absurd (let o : ◌≡◌ {A = ℕ} 0 1 = cc in omega arith)
-whole-bad bad e = refl
+pub whole_bad : (m : Word) → meaning_in m ≡ Bad → no_number ≡ whole_of m
+unfolding meaning_in whole_of
+whole_bad (good (pos k)) e = absurd (let o : ◌≡◌ {A = ℕ} 0 1 = cc in omega arith)
+whole_bad (good (negsuc k)) e = absurd (let o : ◌≡◌ {A = ℕ} 0 1 = cc in omega arith)
+whole_bad bad e = refl
 
-pub meant-fits : (m : Word) → Small m → SFits w32 (whole_of m)
+pub meant_fits : (m : Word) → Small m → SFits w32 (whole_of m)
 unfolding whole_of Small NineDigits
-meant-fits (good (pos n)) s = record { sfits = omega (arith, s) }
-meant-fits (good (negsuc k)) s = record { sfits = omega (arith, s) }
-meant-fits bad s = record { sfits = omega arith }
+meant_fits (good (pos n)) s = record { sfits = omega (arith, s) }
+meant_fits (good (negsuc k)) s = record { sfits = omega (arith, s) }
+meant_fits bad s = record { sfits = omega arith }
 
 module _ (w : List ℕ) (n : ℕ) where
-  pub plain_fits : meaningIn (number w) ≡ Plain n → SFits w32 (pos n)
-  plain_fits e = record { sfits = omega (arith, plain-small (number w) n (number_small w) e) }
+  pub plain_fits : meaning_in (number w) ≡ Plain n → SFits w32 (pos n)
+  plain_fits e = record { sfits = omega (arith, plain_small (number w) n (number_small w) e) }
 
-  pub plain-is : meaningIn (number w) ≡ Plain n → to_z w32 n ≡ whole_of (number w)
-  plain-is e = to_z_pos w32 (omega (arith, plain-small (number w) n (number_small w) e)) ∙ whole_plain (number w) n e
+  pub plain_is : meaning_in (number w) ≡ Plain n → to_z w32 n ≡ whole_of (number w)
+  plain_is e = to_z_pos w32 (omega (arith, plain_small (number w) n (number_small w) e)) ∙ whole_plain (number w) n e
 
-  module _ (e : meaningIn (number w) ≡ Below n) where
+  module _ (e : meaning_in (number w) ≡ Below n) where
     small : n < 1000000000
-    small = below-small (number w) n (number_small w) e
+    small = below_small (number w) n (number_small w) e
 
-    pub minus-near : SFits w32 (pos n)
-    minus-near = record { sfits = omega (arith, small) }
+    pub minus_near : SFits w32 (pos n)
+    minus_near = record { sfits = omega (arith, small) }
 
     minus : pos 0 -ℤ to_z w32 n ≡ whole_of (number w)
     minus = rw (to_z_pos w32 {n = n} (omega (arith, small))) (whole_below (number w) n e)
 
-    pub minus-fits : SFits w32 (pos 0 -ℤ to_z w32 n)
-    minus-fits = rw minus (meant-fits (number w) (number_small w))
+    pub minus_fits : SFits w32 (pos 0 -ℤ to_z w32 n)
+    minus_fits = rw minus (meant_fits (number w) (number_small w))
 
     pub minus_is : to_z w32 (of_z w32 (pos 0 -ℤ to_z w32 n)) ≡ whole_of (number w)
-    minus_is = to_z-of_z minus-fits ∙ minus
+    minus_is = to_z-of_z minus_fits ∙ minus

@@ -2,7 +2,7 @@
 use Rattle.std.specs.Prelude.{Bool, true, cond, not, ◌&&◌, List, [], ◌∷◌, ℕ, suc, ◌*◌, eqb, ℤ, pos, negsuc, drop}
 use Rattle.std.specs.Int.Signed.{le_z}
 use Rattle.words.specs.Numbers.{number}
-use Rattle.grids.specs.Headers.{whole_of, wholeFits, headerWords}
+use Rattle.grids.specs.Headers.{whole_of, whole_fits, header_words}
 
 unfoldable pub wholes : List (List ℕ) → List ℤ
 wholes [] = []
@@ -10,20 +10,20 @@ wholes (w ∷ ws) = whole_of (number w) ∷ wholes ws
 
 -- every word after the header is a cell, in order
 unfoldable pub cells_in : List (List ℕ) → List ℤ
-cells_in ws = wholes (drop headerWords ws)
+cells_in ws = wholes (drop header_words ws)
 
 -- equal in value
-unfoldable pub isSame : ℤ → ℤ → Bool
-isSame a b = le_z a b && le_z b a
+unfoldable pub is_same : ℤ → ℤ → Bool
+is_same a b = le_z a b && le_z b a
 
 -- a number, and not the no-data number
-unfoldable pub cellFits : ℤ → ℤ → Bool
-cellFits noData z = wholeFits z && not (isSame z noData)
+unfoldable pub cell_fits : ℤ → ℤ → Bool
+cell_fits no_data z = whole_fits z && not (is_same z no_data)
 
 -- a depth in units of 0.0001 inch, and not the no-data number in inches
-unfoldable pub depthFits : ℤ → ℕ → Bool
-depthFits (pos n) units = not (eqb units (10000 * n))
-depthFits (negsuc m) units = true
+unfoldable pub depth_fits : ℤ → ℕ → Bool
+depth_fits (pos n) units = not (eqb units (10000 * n))
+depth_fits (negsuc m) units = true
 
 -- how many stand before the first that does not pass; all, where each does
 unfoldable pub passing : {A : Type 0} → (A → Bool) → List A → ℕ
@@ -31,5 +31,5 @@ passing test [] = 0
 passing test (x ∷ xs) = cond (test x) (suc (passing test xs)) 0
 
 -- with one more cell after `count`, of which `passing` stand before the first that does not pass
-unfoldable pub passingWith : ℕ → ℕ → Bool → ℕ
-passingWith passing count fits = cond (eqb passing count && fits) (suc passing) passing
+unfoldable pub passing_with : ℕ → ℕ → Bool → ℕ
+passing_with passing count fits = cond (eqb passing count && fits) (suc passing) passing

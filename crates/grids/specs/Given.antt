@@ -2,11 +2,11 @@
 use Rattle.std.specs.Prelude.{cond, List, [], ◌≡◌, ℕ, ltb, ℤ, length, get_or, replicate}
 use Rattle.std.proofs.lemmas.List.Edits.{sets}
 use Rattle.theory.specs.Lists.{made}
-use Rattle.records.specs.Grids.{gridAs}
+use Rattle.records.specs.Grids.{grid_as}
 use Rattle.grids.specs.Headers as paper
 use Rattle.grids.specs.Judging as judging
-use Rattle.grids.specs.Measures.{mostCharacters}
-use Rattle.grids.specs.Reading.{headerRead, cellsRead, readVerdict}
+use Rattle.grids.specs.Measures.{most_characters}
+use Rattle.grids.specs.Reading.{header_read, cells_read, read_verdict}
 use Rattle.grids.specs.declared.measures.Measure.{Measure}
 use Rattle.grids.specs.declared.headers.Header.{Header}
 use Rattle.grids.specs.declared.reading.Read.{Read}
@@ -15,44 +15,44 @@ use Rattle.grids.specs.declared.judging.GridVerdict.{GridVerdict}
 use Rattle.grids.specs.declared.judging.GridVerdict.TheVariants.{Accepted, Refused}
 
 -- a count past the bytes is no text's
-unfoldable pub textAs : Measure → List ℕ
-textAs m = cond (ltb mostCharacters m.count) [] (made m.count (λ i. get_or m.bytes i 0))
+unfoldable pub text_as : Measure → List ℕ
+text_as m = cond (ltb most_characters m.count) [] (made m.count (λ i. get_or m.bytes i 0))
 
-abbrev pub headerAs : Header → paper.Header
-headerAs h =
+abbrev pub header_as : Header → paper.Header
+header_as h =
     record {
-      grid = gridAs h.grid;
-      xCorner = textAs h.x_corner;
-      yCorner = textAs h.y_corner;
-      cellSize = textAs h.cell_size;
-      noData = h.no_data;
+      grid = grid_as h.grid;
+      x_corner = text_as h.x_corner;
+      y_corner = text_as h.y_corner;
+      cell_size = text_as h.cell_size;
+      no_data = h.no_data;
     }
 
-unfoldable pub measureIn : List ℕ → Measure
-measureIn text = record { bytes = sets (replicate mostCharacters 0) 0 text; count = length text }
+unfoldable pub measure_in : List ℕ → Measure
+measure_in text = record { bytes = sets (replicate most_characters 0) 0 text; count = length text }
 
-abbrev pub headerIn : paper.Header → Header
-headerIn h =
+abbrev pub header_in : paper.Header → Header
+header_in h =
     record {
       grid = record { width = h.grid.width; height = h.grid.height };
-      x_corner = measureIn h.xCorner;
-      y_corner = measureIn h.yCorner;
-      cell_size = measureIn h.cellSize;
-      no_data = h.noData;
+      x_corner = measure_in h.x_corner;
+      y_corner = measure_in h.y_corner;
+      cell_size = measure_in h.cell_size;
+      no_data = h.no_data;
     }
 
-abbrev pub verdictAs : GridVerdict → judging.Verdict
-verdictAs Accepted = judging.accepted
-verdictAs (Refused place) = judging.refused place
+abbrev pub verdict_as : GridVerdict → judging.Verdict
+verdict_as Accepted = judging.accepted
+verdict_as (Refused place) = judging.refused place
 
 -- what a call to read answers, and the lent cells after it: those of the grid at their front, or all as they were
 pub record Reads (text : List ℕ) (before after : List ℤ) (r : Read) : Type 0 where
-  pub verdict : verdictAs r.verdict ≡ readVerdict text (length before)
-  pub header : r.header ≡ headerIn (judging.onAccepted (readVerdict text (length before)) (headerRead text) paper.no_header)
-  pub cells : after ≡ judging.onAccepted (readVerdict text (length before)) (sets before 0 (cellsRead text)) before
+  pub verdict : verdict_as r.verdict ≡ read_verdict text (length before)
+  pub header : r.header ≡ header_in (judging.on_accepted (read_verdict text (length before)) (header_read text) paper.no_header)
+  pub cells : after ≡ judging.on_accepted (read_verdict text (length before)) (sets before 0 (cells_read text)) before
 
 -- what a call to write answers, and the lent bytes after it: the form at their front, or all as they were
 pub record Writes (verdict : judging.Verdict) (form before after : List ℕ) (r : Written) : Type 0 where
-  pub judged : verdictAs r.verdict ≡ verdict
-  pub count : r.count ≡ judging.onAccepted verdict (length form) 0
-  pub bytes : after ≡ judging.onAccepted verdict (sets before 0 form) before
+  pub judged : verdict_as r.verdict ≡ verdict
+  pub count : r.count ≡ judging.on_accepted verdict (length form) 0
+  pub bytes : after ≡ judging.on_accepted verdict (sets before 0 form) before

@@ -2,34 +2,34 @@
 use Rattle.std.specs.Prelude.{Bool, true, false, cond, ◌&&◌, List, [], ◌∷◌, ℕ, ◌+◌, eqb, leb, ℤ, pos, negsuc, get_or}
 use Prim.Native.String.{String}
 use Rattle.std.specs.Int.Signed.{le_z}
-use Rattle.paper.specs.Setup.{Grid, gridFits}
+use Rattle.paper.specs.Setup.{Grid, grid_fits}
 use Rattle.words.specs.Digits.{bytes}
 use Rattle.words.specs.Numbers.{Word, good, bad, number}
-use Rattle.grids.specs.Measures.{isMeasure, measured}
+use Rattle.grids.specs.Measures.{is_measure, measured}
 
 -- corner and cell size are texts
 pub record Header : Type 0 where
   pub grid : Grid
-  pub xCorner : List ℕ
-  pub yCorner : List ℕ
-  pub cellSize : List ℕ
-  pub noData : ℤ
+  pub x_corner : List ℕ
+  pub y_corner : List ℕ
+  pub cell_size : List ℕ
+  pub no_data : ℤ
 
 -- empty: a grid has at least a column
 abbrev pub no_header : Header
-no_header = record { grid = record { width = 0; height = 0 }; xCorner = []; yCorner = []; cellSize = []; noData = pos 0 }
+no_header = record { grid = record { width = 0; height = 0 }; x_corner = []; y_corner = []; cell_size = []; no_data = pos 0 }
 
 -- a whole number of at most nine digits
-unfoldable pub wholeFits : ℤ → Bool
-wholeFits z = le_z (negsuc 999999998) z && le_z z (pos 999999999)
+unfoldable pub whole_fits : ℤ → Bool
+whole_fits z = le_z (negsuc 999999998) z && le_z z (pos 999999999)
 
 -- what a word means as a whole number; below all of nine digits, where it is none
-abbrev pub noNumber : ℤ
-noNumber = negsuc 999999999
+abbrev pub no_number : ℤ
+no_number = negsuc 999999999
 
 unfoldable pub whole_of : Word → ℤ
 whole_of (good z) = z
-whole_of bad = noNumber
+whole_of bad = no_number
 
 -- columns or rows: none, where the word is no number or one below zero
 unfoldable pub size_of : Word → ℕ
@@ -38,13 +38,13 @@ size_of (good (negsuc m)) = 0
 size_of bad = 0
 
 -- the header's limits: the size is document 01's
-unfoldable pub headerFits : Header → Bool
-headerFits h =
-    gridFits h.grid
-    && isMeasure h.xCorner
-    && isMeasure h.yCorner
-    && isMeasure h.cellSize
-    && wholeFits h.noData
+unfoldable pub header_fits : Header → Bool
+header_fits h =
+    grid_fits h.grid
+    && is_measure h.x_corner
+    && is_measure h.y_corner
+    && is_measure h.cell_size
+    && whole_fits h.no_data
 
 -- letters in either case: 65 to 90 are A to Z, and the small ones stand 32 further on
 unfoldable pub lower : ℕ → ℕ
@@ -60,34 +60,34 @@ same [] (y ∷ ys) = false
 same (x ∷ xs) [] = false
 same (x ∷ xs) (y ∷ ys) = eqb x y && same xs ys
 
-unfoldable pub isName : String → List ℕ → Bool
-isName name w = same (lowered w) (bytes name)
+unfoldable pub is_name : String → List ℕ → Bool
+is_name name w = same (lowered w) (bytes name)
 
 -- a text's word by its number, counted from 0; a word that is not there is empty, and neither a name nor a value
 abbrev pub word_at : List (List ℕ) → ℕ → List ℕ
 word_at ws k = get_or ws k []
 
-abbrev pub headerWords : ℕ
-headerWords = 12
+abbrev pub header_words : ℕ
+header_words = 12
 
 unfoldable pub named : List (List ℕ) → Bool
 named ws =
-    isName "ncols" (word_at ws 0)
-    && isName "nrows" (word_at ws 2)
-    && isName "xllcorner" (word_at ws 4)
-    && isName "yllcorner" (word_at ws 6)
-    && isName "cellsize" (word_at ws 8)
-    && isName "nodata_value" (word_at ws 10)
+    is_name "ncols" (word_at ws 0)
+    && is_name "nrows" (word_at ws 2)
+    && is_name "xllcorner" (word_at ws 4)
+    && is_name "yllcorner" (word_at ws 6)
+    && is_name "cellsize" (word_at ws 8)
+    && is_name "nodata_value" (word_at ws 10)
 
-unfoldable pub valuesIn : List (List ℕ) → Header
-valuesIn ws =
+unfoldable pub values_in : List (List ℕ) → Header
+values_in ws =
     record {
       grid = record { width = size_of (number (word_at ws 1)); height = size_of (number (word_at ws 3)) };
-      xCorner = measured (word_at ws 5);
-      yCorner = measured (word_at ws 7);
-      cellSize = measured (word_at ws 9);
-      noData = whole_of (number (word_at ws 11));
+      x_corner = measured (word_at ws 5);
+      y_corner = measured (word_at ws 7);
+      cell_size = measured (word_at ws 9);
+      no_data = whole_of (number (word_at ws 11));
     }
 
-unfoldable pub headerOf : List (List ℕ) → Header
-headerOf ws = cond (named ws) (valuesIn ws) no_header
+unfoldable pub header_of : List (List ℕ) → Header
+header_of ws = cond (named ws) (values_in ws) no_header

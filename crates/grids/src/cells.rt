@@ -3,8 +3,8 @@ ghost use Rattle.std.specs.Prelude.{[], ◌∷◌, ◌++◌, ◌≡◌, ◌*◌,
 ghost use Rattle.words.specs.Digits.{written};
 ghost use Rattle.words.specs.Writing.{Wrote};
 ghost use Rattle.words.specs.Inches.{inches};
-ghost use Rattle.grids.specs.Cells.{cellFits, depthFits, passing};
-ghost use Rattle.grids.specs.Forms.{blankAfter, doneAfter, rows, mostWhole, mostDepth};
+ghost use Rattle.grids.specs.Cells.{cell_fits, depth_fits, passing};
+ghost use Rattle.grids.specs.Forms.{blank_after, done_after, rows, most_whole, most_depth};
 
 use crate::wholes::{magnitude, put_whole, whole_fits};
 use words::{put_byte, put_inches};
@@ -13,14 +13,14 @@ const UNITS_PER_INCH: u64 = 10000;
 
 // A number, and not the no-data number.
 pub(crate) fn cell_fits(no_data: i32, cell: i32) -> bool
-    ensures { result ≡ cellFits no_data cell }
+    ensures { result ≡ cell_fits no_data cell }
 {
     whole_fits(cell) & !((cell <= no_data) & (no_data <= cell))
 }
 
 // Not the no-data number in inches.
 fn depth_fits(no_data: i32, units: u64) -> bool
-    ensures { result ≡ depthFits no_data units }
+    ensures { result ≡ depth_fits no_data units }
 {
     if no_data < 0 {
         return true;
@@ -30,7 +30,7 @@ fn depth_fits(no_data: i32, units: u64) -> bool
 
 // How many stand before the first that is refused.
 pub(crate) fn passing_cells(no_data: i32, cells: &[i32]) -> usize
-    ensures { result ≡ passing (cellFits no_data) cells.now }
+    ensures { result ≡ passing (cell_fits no_data) cells.now }
 {
     let mut i = 0;
     while i < cells.len() {
@@ -44,7 +44,7 @@ pub(crate) fn passing_cells(no_data: i32, cells: &[i32]) -> usize
 }
 
 pub(crate) fn passing_depths(no_data: i32, units: &[u64]) -> usize
-    ensures { result ≡ passing (depthFits no_data) units.now }
+    ensures { result ≡ passing (depth_fits no_data) units.now }
 {
     let mut i = 0;
     while i < units.len() {
@@ -58,14 +58,14 @@ pub(crate) fn passing_depths(no_data: i32, units: &[u64]) -> usize
 
 // A whole number, and the blank after it.
 pub fn put_cell(buffer: &mut [u8], at: usize, cell: i32, blank: u8) -> usize
-    ensures { Wrote mostWhole at (written cell ++ blank ∷ []) buffer.old buffer.new result }
+    ensures { Wrote most_whole at (written cell ++ blank ∷ []) buffer.old buffer.new result }
 {
     let end = put_whole(buffer, at, cell);
     put_byte(buffer, end, blank)
 }
 
 fn put_depth(buffer: &mut [u8], at: usize, units: u64, blank: u8) -> usize
-    ensures { Wrote mostDepth at (inches units ++ blank ∷ []) buffer.old buffer.new result }
+    ensures { Wrote most_depth at (inches units ++ blank ∷ []) buffer.old buffer.new result }
 {
     let end = put_inches(buffer, at, units);
     put_byte(buffer, end, blank)
@@ -73,7 +73,7 @@ fn put_depth(buffer: &mut [u8], at: usize, units: u64, blank: u8) -> usize
 
 // The blank after a cell by how many of its row's stand there with it, and how many of the row then do.
 fn blank_after(columns: usize, done: usize) -> u8
-    ensures { result ≡ blankAfter columns done }
+    ensures { result ≡ blank_after columns done }
 {
     if done == columns {
         return b'\n';
@@ -82,7 +82,7 @@ fn blank_after(columns: usize, done: usize) -> u8
 }
 
 fn done_after(columns: usize, done: usize) -> usize
-    ensures { result ≡ doneAfter columns done }
+    ensures { result ≡ done_after columns done }
 {
     if done == columns {
         return 0;
@@ -91,7 +91,7 @@ fn done_after(columns: usize, done: usize) -> usize
 }
 
 pub(crate) fn put_cells(buffer: &mut [u8], at: usize, columns: usize, cells: &[i32]) -> usize
-    ensures { Wrote (mostWhole * length cells.now) at (rows written columns 0 cells.now) buffer.old buffer.new result }
+    ensures { Wrote (most_whole * length cells.now) at (rows written columns 0 cells.now) buffer.old buffer.new result }
 {
     let mut next = at;
     let mut done = 0;
@@ -106,7 +106,7 @@ pub(crate) fn put_cells(buffer: &mut [u8], at: usize, columns: usize, cells: &[i
 }
 
 pub(crate) fn put_depths(buffer: &mut [u8], at: usize, columns: usize, units: &[u64]) -> usize
-    ensures { Wrote (mostDepth * length units.now) at (rows inches columns 0 units.now) buffer.old buffer.new result }
+    ensures { Wrote (most_depth * length units.now) at (rows inches columns 0 units.now) buffer.old buffer.new result }
 {
     let mut next = at;
     let mut done = 0;

@@ -1,8 +1,8 @@
 // A grid's header.
 ghost use Rattle.std.specs.Prelude.{◌≡◌};
 ghost use Rattle.words.specs.Words.{words};
-ghost use Rattle.grids.specs.Headers.{no_header, headerFits, named as named_in, valuesIn, headerOf};
-ghost use Rattle.grids.specs.Given.{headerAs, headerIn};
+ghost use Rattle.grids.specs.Headers.{no_header, header_fits, named as named_in, values_in, header_of};
+ghost use Rattle.grids.specs.Given.{header_as, header_in};
 
 use crate::measures::Measure;
 use crate::names::{measure_at, named_at, size_at, whole_at};
@@ -10,7 +10,7 @@ use crate::wholes::whole_fits;
 use records::Grid;
 
 // What a grid's file says of it: columns and rows, where its lower left corner lies, how wide a cell is, and the number that stands where nothing is known.
-#[derive(Drop)]
+#[derive(Clone, Copy)]
 pub struct Header {
     pub grid: Grid,
     pub x_corner: Measure,
@@ -31,7 +31,7 @@ fn named(text: &[u8]) -> bool
 }
 
 fn values(text: &[u8]) -> Header
-    ensures { result ≡ headerIn (valuesIn (words text.now)) }
+    ensures { result ≡ header_in (values_in (words text.now)) }
 {
     let width = size_at(text, 1);
     let height = size_at(text, 3);
@@ -51,7 +51,7 @@ fn values(text: &[u8]) -> Header
 impl Header {
     // The empty header, which no grid has.
     pub fn none() -> Header
-        ensures { result ≡ headerIn no_header }
+        ensures { result ≡ header_in no_header }
     {
         Header {
             grid: Grid {
@@ -67,7 +67,7 @@ impl Header {
 
     // What stands at a text's front; the empty header, where the names are others.
     pub(crate) fn in_text(text: &[u8]) -> Header
-        ensures { result ≡ headerIn (headerOf (words text.now)) }
+        ensures { result ≡ header_in (header_of (words text.now)) }
     {
         if named(text) {
             return values(text);
@@ -76,7 +76,7 @@ impl Header {
     }
 
     pub fn fits(self) -> bool
-        ensures { result ≡ headerFits (headerAs self) }
+        ensures { result ≡ header_fits (header_as self) }
     {
         let grid = self.grid;
         let x_corner = self.x_corner;

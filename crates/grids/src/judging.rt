@@ -1,11 +1,11 @@
 // Refusal 12, of a grid that is read and of one that is written alike.
 ghost use Rattle.std.specs.Prelude.{◌≡◌};
-ghost use Rattle.grids.specs.Judging.{judged as judgedBy, gridNumber, gridPlace};
-ghost use Rattle.grids.specs.Given.{headerAs, verdictAs};
+ghost use Rattle.grids.specs.Judging.{judged as judgedBy, grid_number, grid_place};
+ghost use Rattle.grids.specs.Given.{header_as, verdict_as};
 
 use crate::headers::Header;
 
-#[derive(Drop)]
+#[derive(Clone, Copy)]
 pub enum GridVerdict {
     Accepted,
     // At a cell, or at 0.
@@ -17,7 +17,7 @@ const BAD_GRID: u32 = 12;
 impl GridVerdict {
     // 0 where it accepts.
     pub fn number(self) -> u32
-        ensures { result ≡ gridNumber (verdictAs self) }
+        ensures { result ≡ grid_number (verdict_as self) }
     {
         match self {
             GridVerdict::Accepted => 0,
@@ -26,7 +26,7 @@ impl GridVerdict {
     }
 
     pub fn place(self) -> usize
-        ensures { result ≡ gridPlace (verdictAs self) }
+        ensures { result ≡ grid_place (verdict_as self) }
     {
         match self {
             GridVerdict::Accepted => 0,
@@ -37,7 +37,7 @@ impl GridVerdict {
 
 // By the header, the count of the cells before the first that is refused, the count of all, and whether the buffer is long enough.
 pub(crate) fn judged(header: Header, passing: usize, count: usize, enough: bool) -> GridVerdict
-    ensures { verdictAs result ≡ judgedBy (headerAs header) passing count enough }
+    ensures { verdict_as result ≡ judgedBy (header_as header) passing count enough }
 {
     if !header.fits() {
         return GridVerdict::Refused(0);

@@ -1,4 +1,6 @@
 // Whole-number Arc ASCII grids (M-101), read out of lent bytes and written into them; and depths in inches, written as such a grid.
+#![tactic(auto)]
+
 mod cells;
 mod headers;
 mod judging;

@@ -1,9 +1,9 @@
 // A corner or a cell size, kept as text.
 ghost use Rattle.std.specs.Prelude.{[], ◌≡◌, ◌≤◌, length, drop};
-ghost use Rattle.words.specs.Numbers.{allDigits};
+ghost use Rattle.words.specs.Numbers.{all_digits};
 ghost use Rattle.words.specs.Writing.{Put};
-ghost use Rattle.grids.specs.Measures.{mostCharacters, isDigits, goesOn, isUnsigned, isMeasure, measured};
-ghost use Rattle.grids.specs.Given.{textAs, measureIn};
+ghost use Rattle.grids.specs.Measures.{most_characters, is_digits, goes_on, is_unsigned, is_measure, measured};
+ghost use Rattle.grids.specs.Given.{text_as, measure_in};
 
 use words::{is_digit, put_byte, put_bytes};
 
@@ -11,14 +11,14 @@ use words::{is_digit, put_byte, put_bytes};
 pub const MOST_CHARACTERS: usize = 20;
 
 // The text is the first `count` bytes.
-#[derive(Drop)]
+#[derive(Clone, Copy)]
 pub struct Measure {
     pub bytes: [u8; MOST_CHARACTERS],
     pub count: usize,
 }
 
 fn all_digits(word: &[u8], from: usize) -> bool
-    ensures { result ≡ allDigits (drop from word.now) }
+    ensures { result ≡ all_digits (drop from word.now) }
 {
     let mut i = from;
     while i < word.len() {
@@ -32,14 +32,14 @@ fn all_digits(word: &[u8], from: usize) -> bool
 
 // At least one.
 fn some_digits(word: &[u8], from: usize) -> bool
-    ensures { result ≡ isDigits (drop from word.now) }
+    ensures { result ≡ is_digits (drop from word.now) }
 {
     (from < word.len()) & all_digits(word, from)
 }
 
 // After a digit: digits to the end, or to a point with digits after it.
 fn goes_on(word: &[u8], from: usize) -> bool
-    ensures { result ≡ goesOn (drop from word.now) }
+    ensures { result ≡ goes_on (drop from word.now) }
 {
     let mut i = from;
     while i < word.len() {
@@ -56,7 +56,7 @@ fn goes_on(word: &[u8], from: usize) -> bool
 }
 
 fn is_unsigned(word: &[u8], from: usize) -> bool
-    ensures { result ≡ isUnsigned (drop from word.now) }
+    ensures { result ≡ is_unsigned (drop from word.now) }
 {
     if word.len() <= from {
         return false;
@@ -65,7 +65,7 @@ fn is_unsigned(word: &[u8], from: usize) -> bool
 }
 
 fn is_measure(word: &[u8]) -> bool
-    ensures { result ≡ isMeasure word.now }
+    ensures { result ≡ is_measure word.now }
 {
     if word.len() == 0 {
         return false;
@@ -82,8 +82,8 @@ fn is_measure(word: &[u8]) -> bool
 impl Measure {
     // The text that a word is, where it fits.
     fn of(word: &[u8]) -> Measure
-        requires { length word.now ≤ mostCharacters }
-        ensures { result ≡ measureIn word.now }
+        requires { length word.now ≤ most_characters }
+        ensures { result ≡ measure_in word.now }
     {
         let mut bytes = [0u8; MOST_CHARACTERS];
         let count = put_bytes(&mut bytes, 0, word);
@@ -91,7 +91,7 @@ impl Measure {
     }
 
     pub(crate) fn none() -> Measure
-        ensures { result ≡ measureIn [] }
+        ensures { result ≡ measure_in [] }
     {
         Measure {
             bytes: [0u8; MOST_CHARACTERS],
@@ -101,7 +101,7 @@ impl Measure {
 
     // A word where a measure belongs.
     pub(crate) fn in_word(word: &[u8]) -> Measure
-        ensures { result ≡ measureIn (measured word.now) }
+        ensures { result ≡ measure_in (measured word.now) }
     {
         if is_measure(word) {
             return Measure::of(word);
@@ -111,7 +111,7 @@ impl Measure {
 
     // The first `count` bytes; a count past them all is no text's.
     pub(crate) fn put(self, buffer: &mut [u8], at: usize) -> usize
-        ensures { Put at (textAs self) buffer.old buffer.new result }
+        ensures { Put at (text_as self) buffer.old buffer.new result }
     {
         let bytes = self.bytes;
         let count = self.count;
@@ -128,7 +128,7 @@ impl Measure {
     }
 
     pub(crate) fn fits(self) -> bool
-        ensures { result ≡ isMeasure (textAs self) }
+        ensures { result ≡ is_measure (text_as self) }
     {
         let mut text = [0u8; MOST_CHARACTERS];
         let count = self.put(&mut text, 0);

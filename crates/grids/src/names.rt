@@ -4,7 +4,7 @@ ghost use Rattle.words.specs.Words.{words};
 ghost use Rattle.words.specs.Numbers.{number as number_of};
 ghost use Rattle.grids.specs.Headers.{lower as lowerOf, lowered, same as sameBytes, word_at, size_of, whole_of};
 ghost use Rattle.grids.specs.Measures.{measured};
-ghost use Rattle.grids.specs.Given.{measureIn};
+ghost use Rattle.grids.specs.Given.{measure_in};
 ghost use Rattle.grids.specs.Spans.{WordAt};
 
 use crate::measures::Measure;
@@ -86,7 +86,7 @@ pub(crate) fn size_at(text: &[u8], k: usize) -> u32
 }
 
 pub(crate) fn measure_at(text: &[u8], k: usize) -> Measure
-    ensures { result ≡ measureIn (measured (word_at (words text.now) k)) }
+    ensures { result ≡ measure_in (measured (word_at (words text.now) k)) }
 {
     Measure::in_word(word_at(text, k))
 }

@@ -3,7 +3,7 @@ ghost use Rattle.std.specs.Prelude.{◌≡◌, ◌≤◌, ◌<◌, length, drop}
 ghost use Rattle.std.proofs.lemmas.List.Edits.{sets};
 ghost use Rattle.words.specs.Words.{words};
 ghost use Rattle.words.specs.Writing.{farthest};
-ghost use Rattle.grids.specs.Cells.{wholes, cellFits, passing, passingWith};
+ghost use Rattle.grids.specs.Cells.{wholes, cell_fits, passing, passing_with};
 ghost use Rattle.grids.specs.Given.{Reads};
 
 use crate::cells::cell_fits;
@@ -14,14 +14,14 @@ use crate::wholes::whole;
 use words::next_word;
 
 // The header of a refused grid is empty.
-#[derive(Drop)]
+#[derive(Clone, Copy)]
 pub struct Read {
     pub verdict: GridVerdict,
     pub header: Header,
 }
 
 // How many cells stand before the first that is refused, and how many in all.
-#[derive(Drop)]
+#[derive(Clone, Copy)]
 struct Cells {
     passing: usize,
     count: usize,
@@ -33,7 +33,7 @@ const LAST_OF_HEADER: usize = 11;
 // One more passes, where all before it did.
 fn passed(passing: usize, count: usize, fits: bool) -> usize
     requires { passing < farthest }
-    ensures { result ≡ passingWith passing count fits }
+    ensures { result ≡ passing_with passing count fits }
 {
     if (passing == count) & fits {
         return passing + 1;
@@ -42,7 +42,7 @@ fn passed(passing: usize, count: usize, fits: bool) -> usize
 }
 
 fn scan(text: &[u8], from: usize, no_data: i32) -> Cells
-    ensures { (result.passing ≡ passing (cellFits no_data) (wholes (words (drop from text.now))))
+    ensures { (result.passing ≡ passing (cell_fits no_data) (wholes (words (drop from text.now))))
         × (result.count ≡ length (wholes (words (drop from text.now)))) }
 {
     let mut passing = 0;

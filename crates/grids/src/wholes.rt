@@ -3,8 +3,8 @@ ghost use Rattle.std.specs.Prelude.{◌≡◌, ◌≤◌, nat_abs};
 ghost use Rattle.words.specs.Digits.{written};
 ghost use Rattle.words.specs.Numbers.{number as number_of};
 ghost use Rattle.words.specs.Writing.{Wrote};
-ghost use Rattle.grids.specs.Headers.{wholeFits, whole_of};
-ghost use Rattle.grids.specs.Forms.{mostFar, mostSigned};
+ghost use Rattle.grids.specs.Headers.{whole_fits, whole_of};
+ghost use Rattle.grids.specs.Forms.{most_far, most_signed};
 
 use words::{Meaning, number, put_below, put_number};
 
@@ -17,7 +17,7 @@ const NO_NUMBER: i32 = -1000000000;
 
 // At most nine digits.
 pub(crate) fn whole_fits(z: i32) -> bool
-    ensures { result ≡ wholeFits z }
+    ensures { result ≡ whole_fits z }
 {
     (LEAST_WHOLE <= z) & (z <= MOST_WHOLE)
 }
@@ -35,7 +35,7 @@ pub(crate) fn whole(word: &[u8]) -> i32
 
 // How far from zero.
 pub(crate) fn magnitude(z: i32) -> u64
-    ensures { (result ≡ nat_abs z) × (result ≤ mostFar) }
+    ensures { (result ≡ nat_abs z) × (result ≤ most_far) }
 {
     if z < 0 {
         return (0 - z as i64) as u64;
@@ -44,7 +44,7 @@ pub(crate) fn magnitude(z: i32) -> u64
 }
 
 pub(crate) fn put_whole(buffer: &mut [u8], at: usize, z: i32) -> usize
-    ensures { Wrote mostSigned at (written z) buffer.old buffer.new result }
+    ensures { Wrote most_signed at (written z) buffer.old buffer.new result }
 {
     let far = magnitude(z);
     if z < 0 {

@@ -2,8 +2,8 @@
 ghost use Rattle.std.specs.Prelude.{[], ◌∷◌, ◌++◌, ◌+◌, ◌*◌, length};
 ghost use Rattle.words.specs.Digits.{digits, written};
 ghost use Rattle.words.specs.Writing.{Put, Wrote};
-ghost use Rattle.grids.specs.Forms.{nameLine, headerForm, wholeForm, inchesForm, wholeVerdict, inchesVerdict, mostSize, mostText, mostNoData, mostHeader, mostWhole, mostDepth};
-ghost use Rattle.grids.specs.Given.{textAs, headerAs, Writes};
+ghost use Rattle.grids.specs.Forms.{name_line, header_form, whole_form, inches_form, whole_verdict, inches_verdict, most_size, most_text, most_no_data, most_header, most_whole, most_depth};
+ghost use Rattle.grids.specs.Given.{text_as, header_as, Writes};
 
 use crate::cells::{passing_cells, passing_depths, put_cell, put_cells, put_depths};
 use crate::headers::Header;
@@ -13,7 +13,7 @@ use records::{index_of, wide};
 use words::{put_byte, put_bytes, put_item};
 
 // How many bytes were written; of a refused grid none.
-#[derive(Drop)]
+#[derive(Clone, Copy)]
 pub struct Written {
     pub verdict: GridVerdict,
     pub count: usize,
@@ -28,14 +28,14 @@ fn put_name(buffer: &mut [u8], at: usize, name: &[u8]) -> usize
 }
 
 fn put_size(buffer: &mut [u8], at: usize, name: &[u8], size: u32) -> usize
-    ensures { Wrote (length name.now + mostSize) at (nameLine name.now (digits size)) buffer.old buffer.new result }
+    ensures { Wrote (length name.now + most_size) at (name_line name.now (digits size)) buffer.old buffer.new result }
 {
     let value = put_name(buffer, at, name);
     put_item(buffer, value, wide(size), b'\n')
 }
 
 fn put_measure(buffer: &mut [u8], at: usize, name: &[u8], measure: Measure) -> usize
-    ensures { Wrote (length name.now + mostText) at (nameLine name.now (textAs measure)) buffer.old buffer.new result }
+    ensures { Wrote (length name.now + most_text) at (name_line name.now (text_as measure)) buffer.old buffer.new result }
 {
     let value = put_name(buffer, at, name);
     let end = measure.put(buffer, value);
@@ -43,14 +43,14 @@ fn put_measure(buffer: &mut [u8], at: usize, name: &[u8], measure: Measure) -> u
 }
 
 fn put_no_data(buffer: &mut [u8], at: usize, name: &[u8], whole: i32) -> usize
-    ensures { Wrote (length name.now + mostNoData) at (nameLine name.now (written whole)) buffer.old buffer.new result }
+    ensures { Wrote (length name.now + most_no_data) at (name_line name.now (written whole)) buffer.old buffer.new result }
 {
     let value = put_name(buffer, at, name);
     put_cell(buffer, value, whole, b'\n')
 }
 
 fn put_header(buffer: &mut [u8], header: Header) -> usize
-    ensures { Wrote mostHeader 0 (headerForm (headerAs header)) buffer.old buffer.new result }
+    ensures { Wrote most_header 0 (header_form (header_as header)) buffer.old buffer.new result }
 {
     let grid = header.grid;
     let x_corner = header.x_corner;
@@ -66,7 +66,7 @@ fn put_header(buffer: &mut [u8], header: Header) -> usize
 }
 
 fn put_grid(buffer: &mut [u8], header: Header, cells: &[i32]) -> usize
-    ensures { Wrote (mostHeader + mostWhole * length cells.now) 0 (wholeForm (headerAs header) cells.now) buffer.old buffer.new result }
+    ensures { Wrote (most_header + most_whole * length cells.now) 0 (whole_form (header_as header) cells.now) buffer.old buffer.new result }
 {
     let grid = header.grid;
     let from = put_header(buffer, header);
@@ -74,7 +74,7 @@ fn put_grid(buffer: &mut [u8], header: Header, cells: &[i32]) -> usize
 }
 
 fn put_sheet(buffer: &mut [u8], header: Header, units: &[u64]) -> usize
-    ensures { Wrote (mostHeader + mostDepth * length units.now) 0 (inchesForm (headerAs header) units.now) buffer.old buffer.new result }
+    ensures { Wrote (most_header + most_depth * length units.now) 0 (inches_form (header_as header) units.now) buffer.old buffer.new result }
 {
     let grid = header.grid;
     let from = put_header(buffer, header);
@@ -83,7 +83,7 @@ fn put_sheet(buffer: &mut [u8], header: Header, units: &[u64]) -> usize
 
 // Whole numbers. Where they would end is seen first, by writing them into nothing: a buffer that is too short stays as it was.
 pub fn write_grid(header: Header, cells: &[i32], text: &mut [u8]) -> Written
-    ensures { Writes (wholeVerdict (headerAs header) cells.now (length text.old)) (wholeForm (headerAs header) cells.now)
+    ensures { Writes (whole_verdict (header_as header) cells.now (length text.old)) (whole_form (header_as header) cells.now)
         text.old text.new result }
 {
     let passing = passing_cells(header.no_data, cells);
@@ -100,7 +100,7 @@ pub fn write_grid(header: Header, cells: &[i32], text: &mut [u8]) -> Written
 
 // Depths, in inches with four decimals.
 pub fn write_inches(header: Header, units: &[u64], text: &mut [u8]) -> Written
-    ensures { Writes (inchesVerdict (headerAs header) units.now (length text.old)) (inchesForm (headerAs header) units.now)
+    ensures { Writes (inches_verdict (header_as header) units.now (length text.old)) (inches_form (header_as header) units.now)
         text.old text.new result }
 {
     let passing = passing_depths(header.no_data, units);

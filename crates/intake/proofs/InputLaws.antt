@@ -7,5 +7,5 @@ use Rattle.intake.specs.Input.{Within}
 use Rattle.intake.specs.declared.Input.{Input}
 use Rattle.intake.specs.declared.Input.TheVariants.{Bytes}
 
-pub read-within : (bytes : List ℕ) (r : Input) (n : ℕ) → Within r bytes → r ≡ Bytes n → n ≤ length bytes
-read-within bytes r n within e = subst (λ (i : Input). Within i bytes) e within
+pub read_within : (bytes : List ℕ) (r : Input) (n : ℕ) → Within r bytes → r ≡ Bytes n → n ≤ length bytes
+read_within bytes r n within e = subst (λ (i : Input). Within i bytes) e within

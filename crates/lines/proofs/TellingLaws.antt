@@ -5,24 +5,24 @@ use Prim.Native.Nat.{ℕ}
 use native.Mathlib.Omega.{arith}
 use Rattle.paper.specs.Day.{Totals}
 use Rattle.paper.specs.Refusals.{Verdict, accepted, refused, Refusal}
-use Rattle.lines.specs.Lines.{dayLine, refusal}
-use Rattle.lines.specs.Telling.{line_of, toldIn, Tells}
+use Rattle.lines.specs.Lines.{day_line, refusal}
+use Rattle.lines.specs.Telling.{line_of, told_in, Tells}
 use Rattle.words.specs.Writing.{Wrote}
-use Rattle.lines.specs.Writing.{mostLine, mostRefusal}
+use Rattle.lines.specs.Writing.{most_line, most_refusal}
 use Rattle.lines.specs.declared.telling.Told.TheVariants.{More, Last}
 
 -- a day's line, and its refusal, as they are told
-pub tells-line :
+pub tells_line :
     (v : Verdict) (t : Totals) (at serial : ℕ) (before after : List ℕ) (next : ℕ) → v ≡ accepted
-    → Wrote mostLine at (dayLine serial t) before after next
+    → Wrote most_line at (day_line serial t) before after next
     → Tells at serial t v before after (More next)
-unfolding line_of toldIn
-tells-line v t at serial before after next e w = rw e (record { next = next; result = refl; line = w })
+unfolding line_of told_in
+tells_line v t at serial before after next e w = rw e (record { next = next; result = refl; line = w })
 
-pub tells-refusal :
+pub tells_refusal :
     (v : Verdict) (t : Totals) (at serial : ℕ) (why : Refusal) (before after : List ℕ) (next : ℕ) → v ≡ refused why
-    → Wrote mostRefusal at (refusal why) before after next
+    → Wrote most_refusal at (refusal why) before after next
     → Tells at serial t v before after (Last next)
-unfolding line_of toldIn
-tells-refusal v t at serial why before after next e w =
+unfolding line_of told_in
+tells_refusal v t at serial why before after next e w =
     rw e (record { next = next; result = refl; line = record { put = w.put; short = omega (arith, w.short) } })

@@ -10,8 +10,8 @@ row n [] = digits n ++ 10 ∷ []
 row n (m ∷ ms) = digits n ++ 32 ∷ row m ms
 
 -- a day's line: its serial and the seven totals
-unfoldable pub dayLine : ℕ → Totals → List ℕ
-dayLine serial t =
+unfoldable pub day_line : ℕ → Totals → List ℕ
+day_line serial t =
     row serial
     (t.gross
     ∷ t.intercepted
@@ -23,12 +23,12 @@ dayLine serial t =
     ∷ [])
 
 -- `end` and the count of days
-unfoldable pub endLine : ℕ → List ℕ
-endLine days = bytes "end " ++ row days []
+unfoldable pub end_line : ℕ → List ℕ
+end_line days = bytes "end " ++ row days []
 
 -- `refused` number `at` place
-unfoldable pub refusedLine : ℕ → ℕ → List ℕ
-refusedLine number place = bytes "refused " ++ (digits number ++ (bytes " at " ++ row place []))
+unfoldable pub refused_line : ℕ → ℕ → List ℕ
+refused_line number place = bytes "refused " ++ (digits number ++ (bytes " at " ++ row place []))
 
 unfoldable pub refusal : Refusal → List ℕ
-refusal why = refusedLine (number_of why) (place_of why)
+refusal why = refused_line (number_of why) (place_of why)

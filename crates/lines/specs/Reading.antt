@@ -23,11 +23,11 @@ unfoldable pub reading : List ℕ → Reading
 reading text = meant (words text)
 
 -- a longer text is refused before its form: nothing is read of it
-abbrev pub mostBytes : ℕ
-mostBytes = 65536
+abbrev pub most_bytes : ℕ
+most_bytes = 65536
 
 unfoldable pub given : List ℕ → Reading
-given text = cond (ltb mostBytes (length text)) (record { numbers = []; whole = false }) (reading text)
+given text = cond (ltb most_bytes (length text)) (record { numbers = []; whole = false }) (reading text)
 
 -- a number where none below zero belongs: -m stands as 1,000,000,000 + m, past every limit, so that its field refuses it
 abbrev pub negatives : ℕ
@@ -46,23 +46,23 @@ unfoldable pub signed : ℕ → ℤ
 signed c = cond (ltb negatives c) (negsuc (c - (negatives + 1))) (pos c)
 
 -- past every code, where a word is no number
-abbrev pub noNumber : ℕ
-noNumber = 2000000000
+abbrev pub no_number : ℕ
+no_number = 2000000000
 
 unfoldable pub code_of : Word → ℕ
 code_of (good z) = code z
-code_of bad = noNumber
+code_of bad = no_number
 
 -- a number and the blank after it take two bytes, so 65,536 bytes hold at most so many
-abbrev pub mostNumbers : ℕ
-mostNumbers = 32768
+abbrev pub most_numbers : ℕ
+most_numbers = 32768
 
-unfoldable pub formIn : Bool → ℕ → Form
-formIn true n = Whole n
-formIn false n = Broken n
+unfoldable pub form_in : Bool → ℕ → Form
+form_in true n = Whole n
+form_in false n = Broken n
 
 -- the codes of all that was read stand at the front of the lent numbers, which have room for them, and the others are as lent
 pub record Read (all : Reading) (before after : List ℕ) (r : Form) : Type 0 where
-  pub form : r ≡ formIn all.whole (length all.numbers)
+  pub form : r ≡ form_in all.whole (length all.numbers)
   pub numbers : after ≡ sets before 0 (codes all.numbers)
-  pub few : length all.numbers ≤ mostNumbers
+  pub few : length all.numbers ≤ most_numbers

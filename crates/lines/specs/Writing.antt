@@ -2,17 +2,17 @@
 use Rattle.std.specs.Prelude.{ℕ}
 
 -- a number of 64 bits and the byte after it; two; a day's line of eight; the last line `end` and a number; and `refused`, a number, `at` and a number
-abbrev pub mostItem : ℕ
-mostItem = 21
+abbrev pub most_item : ℕ
+most_item = 21
 
-abbrev pub mostPair : ℕ
-mostPair = 42
+abbrev pub most_pair : ℕ
+most_pair = 42
 
-abbrev pub mostLine : ℕ
-mostLine = 168
+abbrev pub most_line : ℕ
+most_line = 168
 
-abbrev pub mostEnd : ℕ
-mostEnd = 25
+abbrev pub most_end : ℕ
+most_end = 25
 
-abbrev pub mostRefusal : ℕ
-mostRefusal = 53
+abbrev pub most_refusal : ℕ
+most_refusal = 53

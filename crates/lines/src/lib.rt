@@ -1,4 +1,6 @@
 // Numbers read out of a text, and the three kinds of line written into a buffer.
+#![tactic(auto)]
+
 mod reading;
 mod telling;
 mod writing;

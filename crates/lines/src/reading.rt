@@ -1,12 +1,12 @@
 // The input's numbers, read word by word into one array, as the codes of specs/Reading.antt.
 ghost use Rattle.std.specs.Prelude.{◌≡◌, ◌≤◌, length};
 ghost use Rattle.words.specs.Numbers.{number as number_of};
-ghost use Rattle.lines.specs.Reading.{reading, mostBytes, given, code_of, Read};
+ghost use Rattle.lines.specs.Reading.{reading, most_bytes, given, code_of, Read};
 
 use words::{Meaning, next_word, number};
 
 // The count of the numbers: of all, or of those before the first bad word.
-#[derive(Drop)]
+#[derive(Clone, Copy)]
 pub enum Form {
     Whole(usize),
     Broken(usize),
@@ -40,7 +40,7 @@ fn code(word: &[u8]) -> u32
 
 // Word after word, each number's code after those before it.
 fn gather(input: &[u8], numbers: &mut [u32; MOST_NUMBERS]) -> Form
-    requires { length input.now ≤ mostBytes }
+    requires { length input.now ≤ most_bytes }
     ensures { Read (reading input.now) numbers.old numbers.new result }
 {
     let mut count = 0;

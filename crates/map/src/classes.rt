@@ -19,7 +19,7 @@ const MOST_TURNS: u64 = 66;
 const ONE_IN: u64 = 50;
 
 // How many cells are land, and the least and the most that recharged on one.
-#[derive(Drop)]
+#[derive(Clone, Copy)]
 pub(crate) struct Land {
     pub(crate) cells: u64,
     pub(crate) least: u64,
@@ -27,7 +27,7 @@ pub(crate) struct Land {
 }
 
 // The first class begins at `first` steps. An open one, the last, has no upper limit.
-#[derive(Drop)]
+#[derive(Clone, Copy)]
 pub(crate) struct Classes {
     pub(crate) step: u64,
     pub(crate) first: u64,

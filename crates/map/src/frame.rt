@@ -26,7 +26,7 @@ const LARGEST_CELL: u64 = 63;
 // From this size of the map on its far side is numbered too.
 const FAR_SIDE: u64 = 400;
 
-#[derive(Drop)]
+#[derive(Clone, Copy)]
 pub(crate) struct Frame {
     pub(crate) columns: u64,
     pub(crate) rows: u64,

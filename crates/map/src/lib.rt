@@ -1,4 +1,6 @@
 // The map of a period's recharge, as a picture for a screen and for paper (SVG): what it looks like is only run and compared, not proved.
+#![tactic(auto)]
+
 mod cells;
 mod classes;
 mod drawing;

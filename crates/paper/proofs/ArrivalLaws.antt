@@ -11,15 +11,15 @@ use lib.Dec.{eqb}
 use lib.ListN.{length, get_or, replicate, length-set, length-replicate, get_or-replicate}
 use lib.Seq.{get_or-set_same, get_or-set_other}
 use borrow.Author.Tests.{lt-ltb, le-ltb, eq-eqb, ne_eqb, eqb-true, eqb-false}
-use Rattle.theory.specs.Lists.{addedAt}
+use Rattle.theory.specs.Lists.{added_at}
 use Rattle.theory.specs.Sums.{sum, given}
 use Rattle.theory.specs.Ways.{UpslopeFirst}
-use Rattle.theory.proofs.Cases.{byCases, below_or_not}
-use Rattle.theory.proofs.SumLaws.{sum-injection}
-use Rattle.theory.proofs.SumsAlong.{sum-support}
+use Rattle.theory.proofs.Cases.{by_cases, below_or_not}
+use Rattle.theory.proofs.SumLaws.{sum_injection}
+use Rattle.theory.proofs.SumsAlong.{sum_support}
 use Rattle.theory.proofs.AlongLaws.{once}
 use Rattle.paper.specs.Flow.{arriving, water}
-use Rattle.paper.proofs.FlowLaws.{water-reached}
+use Rattle.paper.proofs.FlowLaws.{water_reached}
 
 module _ {n : ℕ} {next : ℕ → ℕ} (passed : ℕ → ℕ → ℕ) (own : ℕ → ℕ) (order : UpslopeFirst n next) where
   abbrev W : ℕ → ℕ
@@ -39,42 +39,42 @@ module _ {n : ℕ} {next : ℕ → ℕ} (passed : ℕ → ℕ → ℕ) (own : �
 
   handing : (i j : ℕ) → 0 < handed i j → next j ≡ i
   unfolding handed given
-  handing i j h = byCases (eqb (next j) i) (λ e. eqb-true (next j) i e) (λ e. absurd (not-suc-le-zero (rw e at h)))
+  handing i j h = by_cases (eqb (next j) i) (λ e. eqb-true (next j) i e) (λ e. absurd (not-suc-le-zero (rw e at h)))
 
-  arrived-most : (t i : ℕ) → t ≤ n → arrived t i ≤ inflow i
+  arrived_most : (t i : ℕ) → t ≤ n → arrived t i ≤ inflow i
   unfolding arrived handed arriving
-  arrived-most t i h =
-      sum-injection t n order.who (handed i) (λ u a. order.placed u (lt_of_lt_of_le a h))
+  arrived_most t i h =
+      sum_injection t n order.who (handed i) (λ u a. order.placed u (lt_of_lt_of_le a h))
       (λ s u a b. once order s u (lt_of_lt_of_le a h) (lt_of_lt_of_le b h))
 
   -- all that point to it have had their turn
-  arrived-ripe : (t : ℕ) → t < n → arrived t (order.who t) ≡ inflow (order.who t)
+  arrived_ripe : (t : ℕ) → t < n → arrived t (order.who t) ≡ inflow (order.who t)
   unfolding arrived handed arriving
-  arrived-ripe t h =
+  arrived_ripe t h =
       let i = order.who t in
       let before : t ≤ n = omega arith in
-      le_antisymm (arrived-most t i before)
-      (sum-support t n order.who (handed i) (λ u a. order.placed u (lt_of_lt_of_le a before))
+      le_antisymm (arrived_most t i before)
+      (sum_support t n order.who (handed i) (λ u a. order.placed u (lt_of_lt_of_le a before))
       (λ j a p. let e : next j ≡ i = handing i j p in
-      (order.turn j, omega (arith, order.after j a (rw e (order.placed t h)), ap order.turn e, order.turn-who t h), order.who-turn j a)))
+      (order.turn j, omega (arith, order.after j a (rw e (order.placed t h)), ap order.turn e, order.turn_who t h), order.who_turn j a)))
 
-  one_more : (t i : ℕ) → arrived (suc t) i ≡ arrived t i + handed i (order.who t)
+  one_more_lem : (t i : ℕ) → arrived (suc t) i ≡ arrived t i + handed i (order.who t)
   unfolding arrived sum
-  one_more t i = omega arith
+  one_more_lem t i = omega arith
 
   -- a list of what has arrived before turn t
   pub record Arrived (t : ℕ) (l : List ℕ) : Type 0 where
     pub room : n ≤ length l
     pub each : (i : ℕ) → i < n → get_or l i 0 ≡ arrived t i
 
-  pub arrived-none : (m : ℕ) → n ≤ m → Arrived 0 (replicate m 0)
+  pub arrived_none : (m : ℕ) → n ≤ m → Arrived 0 (replicate m 0)
   unfolding arrived sum
-  arrived-none m h = record { room = rw (length-replicate {A = ℕ} m 0) h; each = λ i l. get_or-replicate m i 0 0 (lt_of_lt_of_le l h) }
+  arrived_none m h = record { room = rw (length-replicate {A = ℕ} m 0) h; each = λ i l. get_or-replicate m i 0 0 (lt_of_lt_of_le l h) }
 
   -- the cell whose turn it is, and what it hands on
   module _ {t : ℕ} {l : List ℕ} (s : Arrived t l) (h : t < n) (cell : ℕ) (whose : cell ≡ order.who t) where
-    pub arrived-reached : get_or l cell 0 ≡ inflow cell
-    arrived-reached = s.each cell (rw whose (order.placed t h)) ∙ rw whose (arrived-ripe t h)
+    pub arrived_reached : get_or l cell 0 ≡ inflow cell
+    arrived_reached = s.each cell (rw whose (order.placed t h)) ∙ rw whose (arrived_ripe t h)
 
     module _ (x way : ℕ) (hands : x ≡ passed cell (W cell)) (leads : next cell ≡ way) where
       there : handed way (order.who t) ≡ x
@@ -86,23 +86,23 @@ module _ {n : ℕ} {next : ℕ → ℕ} (passed : ℕ → ℕ → ℕ) (own : �
       elsewhere i e = rw (← whose, leads, ne_eqb way i e)
 
       more : way < n → get_or l way 0 + x ≡ arrived (suc t) way
-      more a = omega (arith, s.each way a, one_more t way, there)
+      more a = omega (arith, s.each way a, one_more_lem t way, there)
 
-      pub arrived-fits : way < n → own way + (get_or l way 0 + x) ≤ W way
-      arrived-fits a = rw (more a) (omega (arith, arrived-most (suc t) way h, water-reached n next passed order own way a))
+      pub arrived_fits : way < n → own way + (get_or l way 0 + x) ≤ W way
+      arrived_fits a = rw (more a) (omega (arith, arrived_most (suc t) way h, water_reached n next passed order own way a))
 
       still : (i : ℕ) → i < n → (way ≡ i → ⊥) → get_or l i 0 ≡ arrived (t + 1) i
-      still i b other = rw add-one (omega (arith, s.each i b, one_more t i, elsewhere i other))
+      still i b other = rw add-one (omega (arith, s.each i b, one_more_lem t i, elsewhere i other))
 
-      pub arrived-next : Arrived (t + 1) (addedAt n way x l)
-      unfolding addedAt
-      arrived-next =
+      pub arrived_next : Arrived (t + 1) (added_at n way x l)
+      unfolding added_at
+      arrived_next =
           below_or_not way n
           (λ a. rw (lt-ltb way n a)
           (record {
             room = rw (length-set l way (get_or l way 0 + x)) s.room;
             each = λ i b.
-                byCases (eqb way i)
+                by_cases (eqb way i)
                 (λ q. let same : way ≡ i = eqb-true way i q in
                 rw (← same, get_or-set_same l way (get_or l way 0 + x) 0 (lt_of_lt_of_le a s.room), add-one) (more a))
                 (λ q. get_or-set_other l way i (get_or l way 0 + x) 0 (λ e. eqb-false way i q (sym e)) ∙ still i b (eqb-false way i q));

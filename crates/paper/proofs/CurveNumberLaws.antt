@@ -3,7 +3,7 @@
 use Prim.Native.Nat.{ℕ, ◌+◌, ◌-◌, ◌*◌, ◌/◌, ◌≤◌, ◌<◌}
 use native.Mathlib.Nat.{div-lt_iff_lt-mul, le-div_iff_mul-le}
 use native.Mathlib.Omega.{arith}
-use Rattle.paper.specs.CurveNumber.{Condition, I, II, III, nearest, curveNumber}
+use Rattle.paper.specs.CurveNumber.{Condition, I, II, III, nearest, curve_number}
 
 pub record UpTo100 (c : ℕ) : Type 0 where
   pub least : 1 ≤ c
@@ -16,8 +16,8 @@ rounded p q h low high =
     let below : (2 * p + q) / (2 * q) < 101 = (div-lt_iff_lt-mul pos).1 (omega arith) in
     record { least = (le-div_iff_mul-le pos).1 (omega arith); most = omega arith }
 
-pub curve-number-limits : (condition : Condition) (N : ℕ) → 30 ≤ N → N ≤ 100 → UpTo100 (curveNumber condition N)
-unfolding curveNumber
-curve-number-limits I N low high = rounded (100000 * N) (228100 - 1281 * N) (omega arith) (omega arith) (omega arith)
-curve-number-limits II N low high = record { least = omega arith; most = high }
-curve-number-limits III N low high = rounded (100000 * N) (42700 + 573 * N) (omega arith) (omega arith) (omega arith)
+pub curve_number_limits : (condition : Condition) (N : ℕ) → 30 ≤ N → N ≤ 100 → UpTo100 (curve_number condition N)
+unfolding curve_number
+curve_number_limits I N low high = rounded (100000 * N) (228100 - 1281 * N) (omega arith) (omega arith) (omega arith)
+curve_number_limits II N low high = record { least = omega arith; most = high }
+curve_number_limits III N low high = rounded (100000 * N) (42700 + 573 * N) (omega arith) (omega arith) (omega arith)

@@ -6,16 +6,16 @@ use Prim.Native.Nat.{ℕ, ◌-◌}
 use lib.IntN.{ℤ, pos, negsuc}
 use lib.ListN.{replicate}
 use Rattle.paper.specs.Setup.{Setpoints, growing}
-use Rattle.paper.specs.State.{none, fiveDays}
-use Rattle.paper.specs.Snow.{fallsAsSnow, aboveFreezing, meltable}
-use Rattle.paper.specs.CurveNumber.{Condition, I, II, III, class, conditionOf}
-use Rattle.paper.specs.Frost.{floor, or_zero, frostAfter, notDry, counted}
+use Rattle.paper.specs.State.{none, five_days}
+use Rattle.paper.specs.Snow.{falls_as_snow, above_freezing, meltable}
+use Rattle.paper.specs.CurveNumber.{Condition, I, II, III, class, condition_of}
+use Rattle.paper.specs.Frost.{floor, or_zero, frost_after, not_dry, counted}
 use Rattle.paper.specs.CellDay.{today}
 
 -- the index after each of some days, by their means
 unfoldable pub indexes : ℕ → List ℤ → List ℕ
 indexes index [] = []
-indexes index (mean ∷ means) = frostAfter index mean ∷ indexes (frostAfter index mean) means
+indexes index (mean ∷ means) = frost_after index mean ∷ indexes (frost_after index mean) means
 
 -- the setpoints of `balance`
 abbrev setpoints : Setpoints
@@ -33,18 +33,18 @@ dormant index rain mean =
       last = none;
       frost = index;
     })
-    (record { serial = 1; dayOfYear = 70; gross = 0; minimum = mean; mean = mean; maximum = mean; potential = 0 })).condition
+    (record { serial = 1; day_of_year = 70; gross = 0; minimum = mean; mean = mean; maximum = mean; potential = 0 })).condition
 
 pub record FrostFigures : Type 0 where
   -- floors go down, also below zero: floor(-55.6) is -56
   pub floors : floor (negsuc 999) 18 ∷ floor (pos 1000) 18 ∷ floor (negsuc 17) 18 ∷ floor (negsuc 18) 18 ∷ [] ≡ negsuc 55 ∷ pos 55 ∷ negsuc 0 ∷ negsuc 1 ∷ []
-  pub none : frostAfter 0 (pos 320) ≡ 0
-  pub tenth-below : frostAfter 0 (pos 319) ≡ 56
-  pub tenth-above : frostAfter 1000 (pos 321) ≡ 970 - 55
-  pub thawed : frostAfter 56 (pos 321) ≡ 0
-  pub coldest : frostAfter 0 (negsuc 999) ≡ 73334
-  pub after-the-coldest : frostAfter 73334 (pos 320) ≡ 71133
-  pub largest : frostAfter 2500000 (negsuc 999) ≡ 2498334
+  pub none : frost_after 0 (pos 320) ≡ 0
+  pub tenth_below : frost_after 0 (pos 319) ≡ 56
+  pub tenth_above : frost_after 1000 (pos 321) ≡ 970 - 55
+  pub thawed : frost_after 56 (pos 321) ≡ 0
+  pub coldest : frost_after 0 (negsuc 999) ≡ 73334
+  pub after_the_coldest : frost_after 73334 (pos 320) ≡ 71133
+  pub largest : frost_after 2500000 (negsuc 999) ≡ 2498334
   -- thirty days of mean 140, -10 degrees Celsius, and then days of mean 410 until nothing is left
   pub winter :
       indexes 0 (replicate 30 (pos 140))
@@ -57,35 +57,35 @@ pub record FrostFigures : Type 0 where
       ∷ 72477 ∷ 65302 ∷ 58342 ∷ 51591 ∷ 45043 ∷ 38691 ∷ 32530 ∷ 26554 ∷ 20757 ∷ 15134 ∷ 9679 ∷ 4388 ∷ 0 ∷ []
   -- at or above a setpoint counts as reached; condition III without frost stays III
   pub at_second : counts 83000 ≡ III ∷ III ∷ III ∷ []
-  pub below-second : counts 82999 ≡ II ∷ II ∷ III ∷ []
+  pub below_second : counts 82999 ≡ II ∷ II ∷ III ∷ []
   pub at_first : counts 56000 ≡ II ∷ II ∷ III ∷ []
-  pub below-first : counts 55999 ≡ I ∷ II ∷ III ∷ []
+  pub below_first : counts 55999 ≡ I ∷ II ∷ III ∷ []
   -- the index just set decides: 85,000 and mean 400 set 78,006, so that the day is not III any more
-  pub thawing : frostAfter 85000 (pos 400) ≡ 78006
-  pub thawing-day : dormant 85000 0 (pos 400) ∷ dormant 85000 2000 (pos 400) ∷ dormant 85000 3000 (pos 400) ∷ [] ≡ II ∷ II ∷ III ∷ []
+  pub thawing : frost_after 85000 (pos 400) ≡ 78006
+  pub thawing_day : dormant 85000 0 (pos 400) ∷ dormant 85000 2000 (pos 400) ∷ dormant 85000 3000 (pos 400) ∷ [] ≡ II ∷ II ∷ III ∷ []
   -- 85,568 sets 83,000 on a day of mean 320, 85,567 sets 82,999, 57,732 sets 56,000 and 57,731 sets 55,999
   pub days : dormant 85568 0 (pos 320) ∷ dormant 85567 0 (pos 320) ∷ dormant 57732 0 (pos 320) ∷ dormant 57731 0 (pos 320) ∷ [] ≡ III ∷ II ∷ II ∷ I ∷ []
 
-pub frost-figures : FrostFigures
+pub frost_figures : FrostFigures
 unfolding
-    indexes growing fiveDays fallsAsSnow aboveFreezing meltable class conditionOf floor or_zero frostAfter notDry counted today
-frost-figures =
+    indexes growing five_days falls_as_snow above_freezing meltable class condition_of floor or_zero frost_after not_dry counted today
+frost_figures =
     record {
       floors = refl;
       none = refl;
-      tenth-below = refl;
-      tenth-above = refl;
+      tenth_below = refl;
+      tenth_above = refl;
       thawed = refl;
       coldest = refl;
-      after-the-coldest = refl;
+      after_the_coldest = refl;
       largest = refl;
       winter = refl;
       thaw = refl;
       at_second = refl;
-      below-second = refl;
+      below_second = refl;
       at_first = refl;
-      below-first = refl;
+      below_first = refl;
       thawing = refl;
-      thawing-day = refl;
+      thawing_day = refl;
       days = refl;
     }

@@ -9,113 +9,113 @@ use native.Mathlib.Nat.{eq-or-lt_of_le, le_of_suc-le-suc, le_antisymm, le_of_lt,
 use native.Mathlib.Omega.{arith}
 use lib.Dec.{eqb, lit<}
 use borrow.Author.Tests.{ltb-true, ltb-false, leb-true, eqb-true, eq-eqb}
-use Rattle.theory.proofs.Cases.{byCases, below_or_not, and_left, cond-true, cond-false}
+use Rattle.theory.proofs.Cases.{by_cases, below_or_not, and_left, cond_true, cond_false}
 use Rattle.paper.specs.Setup.{Setup, Cell, cell, cells, next}
-use Rattle.paper.specs.State.{State, Day, mostSoilOf, soilAt, snowAt}
-use Rattle.paper.specs.Soil.{SoilDay, excess, wetDay, dryDay, soilDay}
-use Rattle.paper.specs.CellDay.{Today, today, groundOf, Figures, openDay, landDay}
+use Rattle.paper.specs.State.{State, Day, most_soil_of, soil_at, snow_at}
+use Rattle.paper.specs.Soil.{SoilDay, excess, wet_day, dry_day, soil_day}
+use Rattle.paper.specs.CellDay.{Today, today, ground_of, Figures, open_day, land_day}
 use Rattle.paper.specs.Flow.{water}
 use Rattle.paper.specs.Refusals.{Refusal, accepted, refused, verdict}
-use Rattle.paper.specs.Day.{Results, own, passed, figures, verdictOf, figuresOf}
+use Rattle.paper.specs.Day.{Results, own, passed, figures, verdict_of, figures_of}
 use Rattle.paper.specs.Reasons.{
   Facts,
-  factsFor,
+  facts_for,
   facts_of,
-  factsAt,
+  facts_at,
   Reason,
-  openWater,
-  underSnow,
-  noWater,
-  belowPotential,
-  roomForAll,
-  aboveLargest,
-  allRecharged,
-  reasonNumber,
+  open_water,
+  under_snow,
+  no_water,
+  below_potential,
+  room_for_all,
+  above_largest,
+  all_recharged,
+  reason_number,
   holds,
-  reasonOf,
-  byRefusal,
+  reason_of,
+  by_refusal,
   explained,
-  explainedAs,
-  whyTests,
-  whyOf,
+  explained_as,
+  why_tests,
+  why_of,
 }
-use Rattle.paper.proofs.CellDayLaws.{day-open, day-land}
-use Rattle.paper.proofs.DayLaws.{sound-day, reached}
-use Rattle.paper.proofs.SoilLaws.{rule-7, rule-8, by-rule}
+use Rattle.paper.proofs.CellDayLaws.{day_open, day_land}
+use Rattle.paper.proofs.DayLaws.{sound_day, reached}
+use Rattle.paper.proofs.SoilLaws.{rule_7, rule_8, by_rule}
 
 -- a reason comes back from its number
-reasonFrom : ℕ → Reason
-reasonFrom number =
-    cond (eqb number 1) openWater
-    (cond (eqb number 2) underSnow
-    (cond (eqb number 3) noWater
-    (cond (eqb number 4) belowPotential
-    (cond (eqb number 5) roomForAll
-    (cond (eqb number 6) aboveLargest
-    allRecharged)))))
+reason_from : ℕ → Reason
+reason_from number =
+    cond (eqb number 1) open_water
+    (cond (eqb number 2) under_snow
+    (cond (eqb number 3) no_water
+    (cond (eqb number 4) below_potential
+    (cond (eqb number 5) room_for_all
+    (cond (eqb number 6) above_largest
+    all_recharged)))))
 
-from-number : (r : Reason) → reasonFrom (reasonNumber r) ≡ r
-unfolding reasonFrom reasonNumber
-from-number openWater = refl
-from-number underSnow = refl
-from-number noWater = refl
-from-number belowPotential = refl
-from-number roomForAll = refl
-from-number aboveLargest = refl
-from-number allRecharged = refl
+from_number : (r : Reason) → reason_from (reason_number r) ≡ r
+unfolding reason_from reason_number
+from_number open_water = refl
+from_number under_snow = refl
+from_number no_water = refl
+from_number below_potential = refl
+from_number room_for_all = refl
+from_number above_largest = refl
+from_number all_recharged = refl
 
-pub reason-only : (q r : Reason) → reasonNumber q ≡ reasonNumber r → q ≡ r
-reason-only q r e = sym (from-number q) ∙ ap reasonFrom e ∙ from-number r
+pub reason_only : (q r : Reason) → reason_number q ≡ reason_number r → q ≡ r
+reason_only q r e = sym (from_number q) ∙ ap reason_from e ∙ from_number r
 
 -- no reason before this one holds
 unfoldable pub NoEarlier : Facts → ℕ → Type 0
-NoEarlier f number = (q : Reason) → reasonNumber q < number → holds q f ≡ false
+NoEarlier f number = (q : Reason) → reason_number q < number → holds q f ≡ false
 
 -- the reason holds, and none before it
 pub record First (f : Facts) (r : Reason) : Type 0 where
   pub named : holds r f ≡ true
-  pub earlier : NoEarlier f (reasonNumber r)
+  pub earlier : NoEarlier f (reason_number r)
 
 module _ (f : Facts) where
   none_first : NoEarlier f 1
-  unfolding NoEarlier reasonNumber
+  unfolding NoEarlier reason_number
   none_first = elim [
-    | openWater ↦ λ h. absurd (omega arith)
-    | underSnow ↦ λ h. absurd (omega arith)
-    | noWater ↦ λ h. absurd (omega arith)
-    | belowPotential ↦ λ h. absurd (omega arith)
-    | roomForAll ↦ λ h. absurd (omega arith)
-    | aboveLargest ↦ λ h. absurd (omega arith)
-    | allRecharged ↦ λ h. absurd (omega arith)
+    | open_water ↦ λ h. absurd (omega arith)
+    | under_snow ↦ λ h. absurd (omega arith)
+    | no_water ↦ λ h. absurd (omega arith)
+    | below_potential ↦ λ h. absurd (omega arith)
+    | room_for_all ↦ λ h. absurd (omega arith)
+    | above_largest ↦ λ h. absurd (omega arith)
+    | all_recharged ↦ λ h. absurd (omega arith)
   ]
 
   -- one more that does not hold
-  one_more : (r : Reason) → NoEarlier f (reasonNumber r) → holds r f ≡ false → NoEarlier f (suc (reasonNumber r))
+  one_more_lem : (r : Reason) → NoEarlier f (reason_number r) → holds r f ≡ false → NoEarlier f (suc (reason_number r))
   unfolding NoEarlier
-  one_more r before e q h =
+  one_more_lem r before e q h =
       elim (eq-or-lt_of_le (le_of_suc-le-suc h)) [
-        | inl same ↦ ap (λ (x : Reason). holds x f) (reason-only q r same) ∙ e
+        | inl same ↦ ap (λ (x : Reason). holds x f) (reason_only q r same) ∙ e
         | inr less ↦ before q less
       ]
 
   -- the first true one is named, if the seventh holds where the others fail
-  pub first-named : (NoEarlier f 7 → holds allRecharged f ≡ true) → First f (reasonOf f)
-  unfolding reasonOf reasonNumber
-  first-named last =
-      step openWater _ none_first
-      (λ b1. step underSnow _ b1
-      (λ b2. step noWater _ b2
-      (λ b3. step belowPotential _ b3
-      (λ b4. step roomForAll _ b4
-      (λ b5. step aboveLargest _ b5
+  pub first_named : (NoEarlier f 7 → holds all_recharged f ≡ true) → First f (reason_of f)
+  unfolding reason_of reason_number
+  first_named last =
+      step open_water _ none_first
+      (λ b1. step under_snow _ b1
+      (λ b2. step no_water _ b2
+      (λ b3. step below_potential _ b3
+      (λ b4. step room_for_all _ b4
+      (λ b5. step above_largest _ b5
       (λ b6. record { named = last b6; earlier = b6 }))))))
     where
-      step : (r otherwise : Reason) → NoEarlier f (reasonNumber r)
-          → (NoEarlier f (suc (reasonNumber r)) → First f otherwise) → First f (cond (holds r f) r otherwise)
+      step : (r otherwise : Reason) → NoEarlier f (reason_number r)
+          → (NoEarlier f (suc (reason_number r)) → First f otherwise) → First f (cond (holds r f) r otherwise)
       step r otherwise before later =
-          byCases (holds r f)
-          (λ e. subst⁻¹ (First f) (cond-true _ e _ _) (record { named = e; earlier = before }))
-          (λ e. subst⁻¹ (First f) (cond-false _ e _ _) (later (one_more r before e)))
+          by_cases (holds r f)
+          (λ e. subst⁻¹ (First f) (cond_true _ e _ _) (record { named = e; earlier = before }))
+          (λ e. subst⁻¹ (First f) (cond_false _ e _ _) (later (one_more_lem r before e)))
 
 -- of a cell's day
 module _ (c : Cell) (t : Today) (soil snow inflow : ℕ) where
@@ -124,126 +124,126 @@ module _ (c : Cell) (t : Today) (soil snow inflow : ℕ) where
 
   -- land that recharges by rule 7, where no more is left over than the cover takes
   seventh : c.open? ≡ false → t.potential ≤ f.infiltration → f.excess ≤ f.largest → f.recharged ≡ f.excess
-  unfolding facts_of factsFor landDay groundOf wetDay
+  unfolding facts_of facts_for land_day ground_of wet_day
   seventh land wet little =
-      rw (day-land c t soil snow inflow land, rule-7 c.capacity c.largest soil f.infiltration t.potential wet) (min-eq_left little)
+      rw (day_land c t soil snow inflow land, rule_7 c.capacity c.largest soil f.infiltration t.potential wet) (min-eq_left little)
 
-  pub first-reason : First f (reasonOf f)
-  unfolding NoEarlier holds reasonNumber facts_of factsFor
-  first-reason =
-      first-named f
+  pub first_reason : First f (reason_of f)
+  unfolding NoEarlier holds reason_number facts_of facts_for
+  first_reason =
+      first_named f
       (λ before.
-      eq-eqb _ _ (seventh (before openWater (lit< tt)) (ltb-false _ _ (before belowPotential (lit< tt))) (ltb-false _ _ (before aboveLargest (lit< tt)))))
+      eq-eqb _ _ (seventh (before open_water (lit< tt)) (ltb-false _ _ (before below_potential (lit< tt))) (ltb-false _ _ (before above_largest (lit< tt)))))
 
   -- The named reason holds;
-  pub named-reason-holds : holds (reasonOf f) f ≡ true
-  named-reason-holds = first-reason.named
+  pub named_reason_holds : holds (reason_of f) f ≡ true
+  named_reason_holds = first_reason.named
 
   -- no earlier one does;
-  pub no-earlier-reason-holds : (q : Reason) → reasonNumber q < reasonNumber (reasonOf f) → holds q f ≡ false
+  pub no_earlier_reason_holds : (q : Reason) → reason_number q < reason_number (reason_of f) → holds q f ≡ false
   unfolding NoEarlier
-  no-earlier-reason-holds = first-reason.earlier
+  no_earlier_reason_holds = first_reason.earlier
 
   -- and some reason always holds.
-  pub some-reason-holds : (r : Reason) × (holds r f ≡ true)
-  some-reason-holds = (reasonOf f, named-reason-holds)
+  pub some_reason_holds : (r : Reason) × (holds r f ≡ true)
+  some_reason_holds = (reason_of f, named_reason_holds)
 
 -- only one reason is the first
-pub first-only : (f : Facts) (q r : Reason) → First f q → First f r → q ≡ r
+pub first_only : (f : Facts) (q r : Reason) → First f q → First f r → q ≡ r
 unfolding NoEarlier
-first-only f q r a b =
-    below_or_not (reasonNumber q) (reasonNumber r) (λ h. absurd (true≢false (sym a.named ∙ b.earlier q h)))
-    (λ h. below_or_not (reasonNumber r) (reasonNumber q) (λ k. absurd (true≢false (sym b.named ∙ a.earlier r k)))
-    (λ k. reason-only q r (le_antisymm k h)))
+first_only f q r a b =
+    below_or_not (reason_number q) (reason_number r) (λ h. absurd (true≢false (sym a.named ∙ b.earlier q h)))
+    (λ h. below_or_not (reason_number r) (reason_number q) (λ k. absurd (true≢false (sym b.named ∙ a.earlier r k)))
+    (λ k. reason_only q r (le_antisymm k h)))
 
 -- what each reason says of the recharge: none, the cover's largest, or all the excess
-unfoldable pub rechargedBy : Reason → Facts → ℕ
-rechargedBy openWater f = 0
-rechargedBy underSnow f = 0
-rechargedBy noWater f = 0
-rechargedBy belowPotential f = 0
-rechargedBy roomForAll f = 0
-rechargedBy aboveLargest f = f.largest
-rechargedBy allRecharged f = f.excess
+unfoldable pub recharged_by : Reason → Facts → ℕ
+recharged_by open_water f = 0
+recharged_by under_snow f = 0
+recharged_by no_water f = 0
+recharged_by below_potential f = 0
+recharged_by room_for_all f = 0
+recharged_by above_largest f = f.largest
+recharged_by all_recharged f = f.excess
 
 -- rules 7 and 8 recharge the smaller of the excess and the largest; without room for a surplus there is an excess
 module _ (C largest soil n E : ℕ) (held : soil ≤ C) where
-  none_left : (n - E ≤ C - soil) → (soilDay C largest soil n E).recharged ≡ 0
-  unfolding wetDay dryDay excess
-  none_left room = by-rule C largest soil n E (λ r. r.recharged ≡ 0) (λ h. omega arith) (λ h. refl)
+  none_left : (n - E ≤ C - soil) → (soil_day C largest soil n E).recharged ≡ 0
+  unfolding wet_day dry_day excess
+  none_left room = by_rule C largest soil n E (λ r. r.recharged ≡ 0) (λ h. omega arith) (λ h. refl)
 
-  none_below : n < E → (soilDay C largest soil n E).recharged ≡ 0
-  unfolding dryDay
-  none_below less = ap (λ (r : SoilDay). r.recharged) (rule-8 C largest soil n E less)
+  none_below : n < E → (soil_day C largest soil n E).recharged ≡ 0
+  unfolding dry_day
+  none_below less = ap (λ (r : SoilDay). r.recharged) (rule_8 C largest soil n E less)
 
-  the-largest : E ≤ n → largest < excess C soil n E → (soilDay C largest soil n E).recharged ≡ largest
-  unfolding wetDay
-  the-largest enough more = ap (λ (r : SoilDay). r.recharged) (rule-7 C largest soil n E enough) ∙ min-eq_right (le_of_lt more)
+  the_largest : E ≤ n → largest < excess C soil n E → (soil_day C largest soil n E).recharged ≡ largest
+  unfolding wet_day
+  the_largest enough more = ap (λ (r : SoilDay). r.recharged) (rule_7 C largest soil n E enough) ∙ min-eq_right (le_of_lt more)
 
-module _ (c : Cell) (t : Today) (soil snow inflow : ℕ) (held : soil ≤ mostSoilOf c) where
+module _ (c : Cell) (t : Today) (soil snow inflow : ℕ) (held : soil ≤ most_soil_of c) where
   abbrev g : Facts
   g = facts_of c t soil snow inflow
 
   -- on land, by the soil
-  ground : c.open? ≡ false → (x : ℕ) → (soilDay c.capacity c.largest soil g.infiltration t.potential).recharged ≡ x → g.recharged ≡ x
-  unfolding facts_of factsFor landDay groundOf
-  ground land x e = ap (λ (r : Figures). r.recharged) (day-land c t soil snow inflow land) ∙ e
+  ground : c.open? ≡ false → (x : ℕ) → (soil_day c.capacity c.largest soil g.infiltration t.potential).recharged ≡ x → g.recharged ≡ x
+  unfolding facts_of facts_for land_day ground_of
+  ground land x e = ap (λ (r : Figures). r.recharged) (day_land c t soil snow inflow land) ∙ e
 
   within : c.open? ≡ false → soil ≤ c.capacity
-  unfolding mostSoilOf
-  within land = rw (cond-false c.open? land) at held
+  unfolding most_soil_of
+  within land = rw (cond_false c.open? land) at held
 
   -- no water, no surplus
-  dry-ground : c.open? ≡ false → g.water ≡ 0 → g.recharged ≡ 0
-  unfolding facts_of factsFor
-  dry-ground land none = ground land 0 (none_left c.capacity c.largest soil g.infiltration t.potential (within land) (omega (arith, none)))
+  dry_ground : c.open? ≡ false → g.water ≡ 0 → g.recharged ≡ 0
+  unfolding facts_of facts_for
+  dry_ground land none = ground land 0 (none_left c.capacity c.largest soil g.infiltration t.potential (within land) (omega (arith, none)))
 
-  by-reason : (r : Reason) → First g r → g.recharged ≡ rechargedBy r g
-  unfolding NoEarlier holds rechargedBy reasonNumber facts_of factsFor openDay
-  by-reason openWater first = ap (λ (r : Figures). r.recharged) (day-open c t soil snow inflow first.named)
-  by-reason underSnow first = dry-ground (first.earlier openWater (lit< tt)) (eqb-true _ _ (and_left _ _ first.named))
-  by-reason noWater first = dry-ground (first.earlier openWater (lit< tt)) (eqb-true _ _ first.named)
-  by-reason belowPotential first =
-      let land = first.earlier openWater (lit< tt) in
+  by_reason : (r : Reason) → First g r → g.recharged ≡ recharged_by r g
+  unfolding NoEarlier holds recharged_by reason_number facts_of facts_for open_day
+  by_reason open_water first = ap (λ (r : Figures). r.recharged) (day_open c t soil snow inflow first.named)
+  by_reason under_snow first = dry_ground (first.earlier open_water (lit< tt)) (eqb-true _ _ (and_left _ _ first.named))
+  by_reason no_water first = dry_ground (first.earlier open_water (lit< tt)) (eqb-true _ _ first.named)
+  by_reason below_potential first =
+      let land = first.earlier open_water (lit< tt) in
       ground land 0 (none_below c.capacity c.largest soil g.infiltration t.potential (within land) (ltb-true _ _ first.named))
-  by-reason roomForAll first =
-      let land = first.earlier openWater (lit< tt) in
+  by_reason room_for_all first =
+      let land = first.earlier open_water (lit< tt) in
       ground land 0 (none_left c.capacity c.largest soil g.infiltration t.potential (within land) (leb-true _ _ first.named))
-  by-reason aboveLargest first =
-      let land = first.earlier openWater (lit< tt) in
+  by_reason above_largest first =
+      let land = first.earlier open_water (lit< tt) in
       ground land c.largest
-      (the-largest c.capacity c.largest soil g.infiltration t.potential (within land) (ltb-false _ _ (first.earlier belowPotential (lit< tt))) (ltb-true _ _ first.named))
-  by-reason allRecharged first = eqb-true _ _ first.named
+      (the_largest c.capacity c.largest soil g.infiltration t.potential (within land) (ltb-false _ _ (first.earlier below_potential (lit< tt))) (ltb-true _ _ first.named))
+  by_reason all_recharged first = eqb-true _ _ first.named
 
   -- The reason tells what recharged.
-  pub reason-tells-recharge : g.recharged ≡ rechargedBy (reasonOf g) g
-  reason-tells-recharge = by-reason (reasonOf g) (first-reason c t soil snow inflow)
+  pub reason_tells_recharge : g.recharged ≡ recharged_by (reason_of g) g
+  reason_tells_recharge = by_reason (reason_of g) (first_reason c t soil snow inflow)
 
 -- Of a setup, a state before the day, a day and a cell: an accepted day is explained by its first true reason, a refused one by its refusal.
 module _ (s : Setup) (st : State) (d : Day) (i : ℕ) where
-  pub accepted-explained : verdict (whyTests s st d i) ≡ accepted → whyOf s st d i ≡ explained (factsAt s st d i)
-  unfolding whyOf explainedAs
-  accepted-explained e = ap (explainedAs (factsAt s st d i)) e
+  pub accepted_explained : verdict (why_tests s st d i) ≡ accepted → why_of s st d i ≡ explained (facts_at s st d i)
+  unfolding why_of explained_as
+  accepted_explained e = ap (explained_as (facts_at s st d i)) e
 
-  pub refused-explained : (why : Refusal) → verdict (whyTests s st d i) ≡ refused why → whyOf s st d i ≡ byRefusal why
-  unfolding whyOf explainedAs
-  refused-explained why e = ap (explainedAs (factsAt s st d i)) e
+  pub refused_explained : (why : Refusal) → verdict (why_tests s st d i) ≡ refused why → why_of s st d i ≡ by_refusal why
+  unfolding why_of explained_as
+  refused_explained why e = ap (explained_as (facts_at s st d i)) e
 
-  pub first-of-the-day : First (factsAt s st d i) (reasonOf (factsAt s st d i))
-  unfolding factsAt
-  first-of-the-day = first-reason (cell s i) (today s.climate st.past d) (soilAt st i) (snowAt st i) _
+  pub first_of_the_day : First (facts_at s st d i) (reason_of (facts_at s st d i))
+  unfolding facts_at
+  first_of_the_day = first_reason (cell s i) (today s.climate st.past d) (soil_at st i) (snow_at st i) _
 
   -- the facts are those of the day's figures
-  pub facts-recharged : (factsAt s st d i).recharged ≡ (figuresOf s st d i).recharged
-  unfolding factsAt facts_of factsFor figuresOf figures
-  facts-recharged = refl
+  pub facts_recharged : (facts_at s st d i).recharged ≡ (figures_of s st d i).recharged
+  unfolding facts_at facts_of facts_for figures_of figures
+  facts_recharged = refl
 
-  pub facts-snow : (factsAt s st d i).endSnow ≡ (figuresOf s st d i).snow
-  unfolding factsAt facts_of factsFor figuresOf figures
-  facts-snow = refl
+  pub facts_snow : (facts_at s st d i).end_snow ≡ (figures_of s st d i).snow
+  unfolding facts_at facts_of facts_for figures_of figures
+  facts_snow = refl
 
   -- and w is the water that reaches the cell, upslope first
-  pub facts-water : (r : Results) → verdictOf s st r d ≡ accepted → i < cells s
-      → (factsAt s st d i).water ≡ water (cells s) (next s) (passed s st (today s.climate st.past d)) (own s st (today s.climate st.past d)) i
-  unfolding factsAt facts_of factsFor own
-  facts-water r e h = sym (reached s st r d (sound-day s st r d e) i h)
+  pub facts_water : (r : Results) → verdict_of s st r d ≡ accepted → i < cells s
+      → (facts_at s st d i).water ≡ water (cells s) (next s) (passed s st (today s.climate st.past d)) (own s st (today s.climate st.past d)) i
+  unfolding facts_at facts_of facts_for own
+  facts_water r e h = sym (reached s st r d (sound_day s st r d e) i h)

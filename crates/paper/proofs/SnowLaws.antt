@@ -8,29 +8,29 @@ use native.Mathlib.Omega.{arith}
 use lib.IntN.{ℤ, pos, negsuc}
 use lib.Signed.{le_z}
 use borrow.Author.Tests.{leb-true}
-use Rattle.paper.specs.Limits.{mostTemperature}
-use Rattle.paper.specs.Snow.{freezing, aboveFreezing, meltable}
+use Rattle.paper.specs.Limits.{most_temperature}
+use Rattle.paper.specs.Snow.{freezing, above_freezing, meltable}
 
 -- 1.5 mm are 150,000 hundred-thousandths of a millimetre, of which a unit of 0.0001 inch is 254; a degree Celsius is 18 tenths of a degree
 -- Fahrenheit. Of the rate itself nothing is rounded.
-pub melt-in-millimetres : (maximum : ℤ) → meltable maximum ≡ 150000 * aboveFreezing maximum / (18 * 254)
+pub melt_in_millimetres : (maximum : ℤ) → meltable maximum ≡ 150000 * above_freezing maximum / (18 * 254)
 unfolding meltable
-melt-in-millimetres maximum = omega arith
+melt_in_millimetres maximum = omega arith
 
 -- only if maximum > 320
-pub melt-none : (maximum : ℤ) → le_z maximum (pos freezing) ≡ true → meltable maximum ≡ 0
-unfolding meltable aboveFreezing
-melt-none (pos m) e = rw (sub-eq-zero_of_le (leb-true m 320 e)) refl
-melt-none (negsuc m) e = refl
+pub melt_none : (maximum : ℤ) → le_z maximum (pos freezing) ≡ true → meltable maximum ≡ 0
+unfolding meltable above_freezing
+melt_none (pos m) e = rw (sub-eq-zero_of_le (leb-true m 320 e)) refl
+melt_none (negsuc m) e = refl
 
 -- no maximum within its limits melts more than the highest, 1,500, does
-pub melt-rises : (a b : ℤ) → le_z a b ≡ true → meltable a ≤ meltable b
-unfolding meltable aboveFreezing
-melt-rises (pos a) (pos b) e = omega (arith, leb-true a b e)
-melt-rises (pos a) (negsuc b) e = absurd (false≢true e)
-melt-rises (negsuc a) b e = zero-le
+pub melt_rises : (a b : ℤ) → le_z a b ≡ true → meltable a ≤ meltable b
+unfolding meltable above_freezing
+melt_rises (pos a) (pos b) e = omega (arith, leb-true a b e)
+melt_rises (pos a) (negsuc b) e = absurd (false≢true e)
+melt_rises (negsuc a) b e = zero-le
 
-pub melt-most : (maximum : ℤ) → le_z maximum mostTemperature ≡ true → meltable maximum ≤ 50000
-unfolding meltable aboveFreezing
-melt-most (pos m) e = omega (arith, leb-true m 1500 e)
-melt-most (negsuc m) e = zero-le
+pub melt_most : (maximum : ℤ) → le_z maximum most_temperature ≡ true → meltable maximum ≤ 50000
+unfolding meltable above_freezing
+melt_most (pos m) e = omega (arith, leb-true m 1500 e)
+melt_most (negsuc m) e = zero-le

@@ -6,43 +6,43 @@ use Prim.Native.Nat.{ℕ, suc, ◌<◌, ◌≤◌, zero-le}
 use native.Mathlib.Nat.{le_refl}
 use lib.Dec.{ltb}
 use borrow.Author.Tests.{le-leb, ltb-true}
-use Rattle.theory.proofs.Cases.{byCases, and_both, cond-true, cond-false}
+use Rattle.theory.proofs.Cases.{by_cases, and_both, cond_true, cond_false}
 use Rattle.theory.proofs.ListLaws.{made_at}
 use Rattle.paper.specs.Setup.{Setup, Climate, growing, cell, cells}
-use Rattle.paper.specs.State.{Day, Memory, Past, pastAfter, remembered, fiveDays, freshState, mostSoilOf, mostSnowOf, soilAt, snowAt, storesFit, memoryFits, lastFits, pastFits}
-use Rattle.paper.specs.CurveNumber.{conditionOf}
+use Rattle.paper.specs.State.{Day, Memory, Past, past_after, remembered, five_days, fresh_state, most_soil_of, most_snow_of, soil_at, snow_at, stores_fit, memory_fits, last_fits, past_fits}
+use Rattle.paper.specs.CurveNumber.{condition_of}
 use Rattle.paper.specs.Frost.{counted}
 use Rattle.paper.specs.CellDay.{today}
-use Rattle.paper.specs.Refusals.{stateFits}
+use Rattle.paper.specs.Refusals.{state_fits}
 
 -- after five days nothing older is left
-pub five-days : (m : Memory) (a b c d e : ℕ)
+pub five_days_lem : (m : Memory) (a b c d e : ℕ)
     → remembered (remembered (remembered (remembered (remembered m a) b) c) d) e
     ≡ record { oldest = a; fourth = b; third = c; second = d; yesterday = e }
 unfolding remembered
-five-days m a b c d e = refl
+five_days_lem m a b c d e = refl
 
 -- today's gross precipitation is not counted in the condition
-pub today-not-counted : (c : Climate) (p : Past) (d e : Day) → d.dayOfYear ≡ e.dayOfYear → d.mean ≡ e.mean
+pub today_not_counted : (c : Climate) (p : Past) (d e : Day) → d.day_of_year ≡ e.day_of_year → d.mean ≡ e.mean
     → (today c p d).condition ≡ (today c p e).condition
 unfolding today
-today-not-counted c p d e same mean = rw (same, mean) refl
+today_not_counted c p d e same mean = rw (same, mean) refl
 
 -- the index that a day sets, which is the one handed on, decides what it counts as
-pub just-set-decides : (c : Climate) (p : Past) (d : Day)
-    → (today c p d).condition ≡ counted c.setpoints (pastAfter p d).frost (conditionOf (growing c.season d.dayOfYear) (fiveDays p.memory))
+pub just_set_decides : (c : Climate) (p : Past) (d : Day)
+    → (today c p d).condition ≡ counted c.setpoints (past_after p d).frost (condition_of (growing c.season d.day_of_year) (five_days p.memory))
 unfolding today
-just-set-decides c p d = refl
+just_set_decides c p d = refl
 
-pub fresh-fits : (s : Setup) (i : ℕ) → i < suc (cells s) → stateFits s (freshState s) i ≡ true
-unfolding stateFits freshState storesFit pastFits memoryFits lastFits
-fresh-fits s i h =
-    byCases (ltb i (cells s))
+pub fresh_fits : (s : Setup) (i : ℕ) → i < suc (cells s) → state_fits s (fresh_state s) i ≡ true
+unfolding state_fits fresh_state stores_fit past_fits memory_fits last_fits
+fresh_fits s i h =
+    by_cases (ltb i (cells s))
     (λ e.
     let inside : i < cells s = ltb-true i (cells s) e in
-    let soil : soilAt (freshState s) i ≤ mostSoilOf (cell s i)
-    = rw (made_at (cells s) (λ j. mostSoilOf (cell s j)) 0 i inside) (le_refl (mostSoilOf (cell s i))) in
-    let snow : snowAt (freshState s) i ≤ mostSnowOf (cell s i)
+    let soil : soil_at (fresh_state s) i ≤ most_soil_of (cell s i)
+    = rw (made_at (cells s) (λ j. most_soil_of (cell s j)) 0 i inside) (le_refl (most_soil_of (cell s i))) in
+    let snow : snow_at (fresh_state s) i ≤ most_snow_of (cell s i)
     = rw (made_at {A = ℕ} (cells s) (λ j. 0) 0 i inside) zero-le in
-    rw (cond-true (ltb i (cells s)) e) (and_both _ _ (le-leb _ _ soil) (le-leb _ _ snow)))
-    (λ e. rw (cond-false (ltb i (cells s)) e) refl)
+    rw (cond_true (ltb i (cells s)) e) (and_both _ _ (le-leb _ _ soil) (le-leb _ _ snow)))
+    (λ e. rw (cond_false (ltb i (cells s)) e) refl)

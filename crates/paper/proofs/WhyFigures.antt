@@ -5,45 +5,45 @@ use mathlib.Core.Path.{◌≡◌, refl}
 use mathlib.Core.List.{List, [], ◌∷◌, ◌++◌}
 use Prim.Native.Nat.{ℕ, ◌+◌}
 use lib.IntN.{ℤ, pos}
-use Rattle.theory.specs.Lowest.{orAt, lowest, isFound, some}
+use Rattle.theory.specs.Lowest.{or_at, lowest, is_found, some}
 use Rattle.theory.specs.Sums.{sum, given}
-use Rattle.theory.specs.Ways.{walk, onRing}
-use Rattle.paper.specs.Covers.{entries, sizeFits, groupFits, rises, entryFits}
-use Rattle.paper.specs.Directions.{way_of, stepped, cell_at, goesBy}
-use Rattle.paper.specs.Setup.{Setup, cell, cells_of, gridFits, seasonFits, setpointsFit, climateFits, growing, placeOr, entry_of, cellFits, isOpen, goes, pointed, next, isClosed}
-use Rattle.paper.specs.State.{State, Day, noPast, fiveDays, mostSoilOf, mostSnowOf, storesFit, memoryFits, lastFits, pastFits, dayFits, follows}
+use Rattle.theory.specs.Ways.{walk, on_ring}
+use Rattle.paper.specs.Covers.{entries, size_fits, group_fits, rises, entry_fits}
+use Rattle.paper.specs.Directions.{way_of, stepped, cell_at, goes_by}
+use Rattle.paper.specs.Setup.{Setup, cell, cells_of, grid_fits, season_fits, setpoints_fit, climate_fits, growing, place_or, entry_of, cell_fits, is_open, goes, pointed, next, is_closed}
+use Rattle.paper.specs.State.{State, Day, no_past, five_days, most_soil_of, most_snow_of, stores_fit, memory_fits, last_fits, past_fits, day_fits, follows}
 use Rattle.paper.specs.Interception.{intercepted, net}
-use Rattle.paper.specs.Snow.{fallsAsSnow, aboveFreezing, meltable, melt}
-use Rattle.paper.specs.CurveNumber.{class, conditionOf, nearest, curveNumber}
-use Rattle.paper.specs.Frost.{floor, or_zero, frostAfter, notDry, counted}
-use Rattle.paper.specs.Runoff.{beyondAbstraction, spread, runoff}
-use Rattle.paper.specs.Soil.{excess, wetDay, dryDay, soilDay}
-use Rattle.paper.specs.CellDay.{today, figureOf, interceptedOf, netOf, rainOf, store_of, meltOf, own_of, runoffOf, groundOf, passedOf, openDay, landDay, cellDay}
-use Rattle.paper.specs.Flow.{arriving, waterFrom, water}
-use Rattle.paper.specs.Refusals.{cellNumbers, ring, climate, dayRecord, grid, single, judged, verdict, oneEach, setupLengths, coverPlaces, coverFits, stateFits, tooDeep, dayTests}
+use Rattle.paper.specs.Snow.{falls_as_snow, above_freezing, meltable, melt}
+use Rattle.paper.specs.CurveNumber.{class, condition_of, nearest, curve_number}
+use Rattle.paper.specs.Frost.{floor, or_zero, frost_after, not_dry, counted}
+use Rattle.paper.specs.Runoff.{beyond_abstraction, spread, runoff}
+use Rattle.paper.specs.Soil.{excess, wet_day, dry_day, soil_day}
+use Rattle.paper.specs.CellDay.{today, figure_of, intercepted_of, net_of, rain_of, store_of, melt_of, own_of, runoff_of, ground_of, passed_of, open_day, land_day, cell_day}
+use Rattle.paper.specs.Flow.{arriving, water_from, water}
+use Rattle.paper.specs.Refusals.{cell_numbers, ring, climate, day_record, grid, single, judged, verdict, one_each, setup_lengths, cover_places, cover_fits, state_fits, too_deep, day_tests}
 use Rattle.paper.specs.Day.{passed, own, inflow}
 use Rattle.paper.specs.Reasons.{
-  factsFor,
+  facts_for,
   facts_of,
-  factsAt,
-  openWater,
-  underSnow,
-  noWater,
-  belowPotential,
-  roomForAll,
-  aboveLargest,
-  allRecharged,
-  reasonNumber,
+  facts_at,
+  open_water,
+  under_snow,
+  no_water,
+  below_potential,
+  room_for_all,
+  above_largest,
+  all_recharged,
+  reason_number,
   holds,
-  reasonOf,
+  reason_of,
   Explanation,
   because,
-  byRefusal,
-  withDepths,
+  by_refusal,
+  with_depths,
   explained,
-  explainedAs,
-  whyTests,
-  whyOf,
+  explained_as,
+  why_tests,
+  why_of,
 }
 
 abbrev covers : List ℕ
@@ -71,7 +71,7 @@ abbrev lake : Setup
 lake = setup 1 1 9 270
 
 abbrev state : ℕ → ℕ → ℕ → ℕ → State
-state soil below snow under = record { soil = soil ∷ below ∷ []; snow = snow ∷ under ∷ []; past = noPast }
+state soil below snow under = record { soil = soil ∷ below ∷ []; snow = snow ∷ under ∷ []; past = no_past }
 
 abbrev full : State
 full = state 50000 50000 0 0
@@ -80,7 +80,7 @@ abbrev day : ℕ → ℤ → ℕ → Day
 day gross temperature potential =
     record {
       serial = 1;
-      dayOfYear = 150;
+      day_of_year = 150;
       gross = gross;
       minimum = temperature;
       mean = temperature;
@@ -93,93 +93,93 @@ abbrev rain : ℕ → Day
 rain gross = day gross (pos 700) 2000
 
 abbrev why : State → Day → ℕ → Explanation
-why = whyOf hollow
+why = why_of hollow
 
 pub record WhyFigures : Type 0 where
   -- 1: on a lake fall 30,900, and 22,000 reach it
-  pub on-a-lake : whyOf lake (state 50000 0 0 0) (rain 30900) 1 ≡ because openWater 30900 22000
+  pub on_a_lake : why_of lake (state 50000 0 0 0) (rain 30900) 1 ≡ because open_water 30900 22000
   -- open water comes first, also where no water reaches it
-  pub dry-lake : whyOf lake (state 50000 0 0 0) (rain 0) 1 ≡ because openWater 0 0
+  pub dry_lake : why_of lake (state 50000 0 0 0) (rain 0) 1 ≡ because open_water 0 0
   -- 2: of 1,000 that fall as snow 900 are intercepted, and nothing melts; a unit of snow suffices
-  pub under-snow : why full (day 1000 (pos 300) 2000) 0 ≡ because underSnow 0 100
-  pub a-unit-of-snow : why full (day 901 (pos 300) 2000) 0 ≡ because underSnow 0 1
+  pub under_snow_lem : why full (day 1000 (pos 300) 2000) 0 ≡ because under_snow 0 100
+  pub a_unit_of_snow : why full (day 901 (pos 300) 2000) 0 ≡ because under_snow 0 1
   -- 3: none, also where potential is 0, so that infiltration is not below it
-  pub no-water : why full (rain 900) 0 ≡ because noWater 0 0
-  pub no-potential : why full (day 0 (pos 700) 0) 0 ≡ because noWater 0 0
+  pub no_water_lem : why full (rain 900) 0 ≡ because no_water 0 0
+  pub no_potential : why full (day 0 (pos 700) 0) 0 ≡ because no_water 0 0
   -- 4: a unit of rain, and one unit below the potential; melt is water too
-  pub a_unit : why full (rain 901) 0 ≡ because belowPotential 1 2000
-  pub just-below : why full (rain 2899) 0 ≡ because belowPotential 1999 2000
-  pub melted : why (state 50000 50000 7 7) (rain 0) 0 ≡ because belowPotential 7 2000
+  pub a_unit : why full (rain 901) 0 ≡ because below_potential 1 2000
+  pub just_below : why full (rain 2899) 0 ≡ because below_potential 1999 2000
+  pub melted : why (state 50000 50000 7 7) (rain 0) 0 ≡ because below_potential 7 2000
   -- 5: the potential met, with no room left and none needed; the room is that of the soil before the day; just enough of it
-  pub met : why full (rain 2900) 0 ≡ because roomForAll 0 0
-  pub room-before : why (state 45000 50000 0 0) (rain 5900) 0 ≡ because roomForAll 3000 5000
-  pub just-room : why (state 45000 50000 0 0) (rain 7900) 0 ≡ because roomForAll 5000 5000
+  pub met : why full (rain 2900) 0 ≡ because room_for_all 0 0
+  pub room_before : why (state 45000 50000 0 0) (rain 5900) 0 ≡ because room_for_all 3000 5000
+  pub just_room : why (state 45000 50000 0 0) (rain 7900) 0 ≡ because room_for_all 5000 5000
   -- 7: a unit more; and as much as the cover's largest
-  pub a-unit-over : why (state 45000 50000 0 0) (rain 7901) 0 ≡ because allRecharged 1 6000
-  pub at-the-largest : why full (rain 8900) 0 ≡ because allRecharged 6000 6000
+  pub a_unit_over : why (state 45000 50000 0 0) (rain 7901) 0 ≡ because all_recharged 1 6000
+  pub at_the_largest : why full (rain 8900) 0 ≡ because all_recharged 6000 6000
   -- 6: a unit more; and the worked day, of which 2,461 run off cell 0, and 22,000 reach cell 1
-  pub above-it : why full (rain 8901) 0 ≡ because aboveLargest 6001 6000
-  pub worked-above : why full (rain 30900) 0 ≡ because aboveLargest 25539 6000
-  pub worked-below : why full (rain 30900) 1 ≡ because aboveLargest 50000 6000
+  pub above_it : why full (rain 8901) 0 ≡ because above_largest 6001 6000
+  pub worked_above : why full (rain 30900) 0 ≡ because above_largest 25539 6000
+  pub worked_below : why full (rain 30900) 1 ≡ because above_largest 50000 6000
   -- inflow alone is water: of 12,467 that melt on cell 0 4,467 are rejected and reach cell 1, which has none of its own
-  pub inflow-alone : why (state 50000 50000 30000 0) (rain 0) 1 ≡ because allRecharged 2467 6000
+  pub inflow_alone : why (state 50000 50000 30000 0) (rain 0) 1 ≡ because all_recharged 2467 6000
   -- a refused day by its refusal
-  pub refused-day : why full (day 0 (pos 1501) 0) 0 ≡ byRefusal dayRecord
+  pub refused_day : why full (day 0 (pos 1501) 0) 0 ≡ by_refusal day_record
   -- a cell outside the grid: 4 at its number, after the grid, the bad cells of the grid and before a ring, the climate and the day
-  pub outside : why full (rain 0) 2 ≡ byRefusal (cellNumbers 2)
-  pub bad-cell-first : whyOf (setup 1 0 4 270) full (rain 0) 7 ≡ byRefusal (cellNumbers 1)
-  pub before-a-ring : whyOf (setup 1 16 3 270) full (rain 0) 7 ≡ byRefusal (cellNumbers 7)
-  pub ring-inside : whyOf (setup 1 16 3 270) full (rain 0) 1 ≡ byRefusal (ring 0)
-  pub before-the-climate : whyOf (setup 1 0 3 367) full (rain 0) 2 ≡ byRefusal (cellNumbers 2)
-  pub climate-inside : whyOf (setup 1 0 3 367) full (rain 0) 1 ≡ byRefusal climate
-  pub before-the-day : why full (day 0 (pos 1501) 0) 2 ≡ byRefusal (cellNumbers 2)
+  pub outside : why full (rain 0) 2 ≡ by_refusal (cell_numbers 2)
+  pub bad_cell_first : why_of (setup 1 0 4 270) full (rain 0) 7 ≡ by_refusal (cell_numbers 1)
+  pub before_a_ring : why_of (setup 1 16 3 270) full (rain 0) 7 ≡ by_refusal (cell_numbers 7)
+  pub ring_inside : why_of (setup 1 16 3 270) full (rain 0) 1 ≡ by_refusal (ring 0)
+  pub before_the_climate : why_of (setup 1 0 3 367) full (rain 0) 2 ≡ by_refusal (cell_numbers 2)
+  pub climate_inside : why_of (setup 1 0 3 367) full (rain 0) 1 ≡ by_refusal climate
+  pub before_the_day : why full (day 0 (pos 1501) 0) 2 ≡ by_refusal (cell_numbers 2)
   -- the numbers
   pub numbers :
-      reasonNumber openWater
-      ∷ reasonNumber underSnow
-      ∷ reasonNumber noWater
-      ∷ reasonNumber belowPotential
-      ∷ reasonNumber roomForAll
-      ∷ reasonNumber aboveLargest
-      ∷ reasonNumber allRecharged
+      reason_number open_water
+      ∷ reason_number under_snow
+      ∷ reason_number no_water
+      ∷ reason_number below_potential
+      ∷ reason_number room_for_all
+      ∷ reason_number above_largest
+      ∷ reason_number all_recharged
       ∷ []
       ≡ 1 ∷ 2 ∷ 3 ∷ 4 ∷ 5 ∷ 6 ∷ 7 ∷ []
 
-pub why-figures : WhyFigures
+pub why_figures : WhyFigures
 unfolding
-    orAt lowest isFound some sum given walk onRing entries sizeFits groupFits rises entryFits way_of stepped cell_at goesBy cell cells_of gridFits seasonFits setpointsFit
-    climateFits growing placeOr entry_of cellFits isOpen goes pointed next isClosed fiveDays mostSoilOf mostSnowOf storesFit memoryFits lastFits pastFits dayFits follows
-    intercepted net fallsAsSnow aboveFreezing meltable melt class conditionOf nearest curveNumber floor or_zero frostAfter notDry counted beyondAbstraction spread runoff
-    excess wetDay dryDay soilDay today figureOf interceptedOf netOf rainOf store_of meltOf own_of runoffOf groundOf passedOf openDay landDay cellDay arriving waterFrom water
-    single judged verdict oneEach setupLengths coverPlaces coverFits stateFits tooDeep dayTests passed own inflow factsFor facts_of factsAt reasonNumber holds reasonOf
-    withDepths explained explainedAs whyTests whyOf
-why-figures =
+    or_at lowest is_found some sum given walk on_ring entries size_fits group_fits rises entry_fits way_of stepped cell_at goes_by cell cells_of grid_fits season_fits setpoints_fit
+    climate_fits growing place_or entry_of cell_fits is_open goes pointed next is_closed five_days most_soil_of most_snow_of stores_fit memory_fits last_fits past_fits day_fits follows
+    intercepted net falls_as_snow above_freezing meltable melt class condition_of nearest curve_number floor or_zero frost_after not_dry counted beyond_abstraction spread runoff
+    excess wet_day dry_day soil_day today figure_of intercepted_of net_of rain_of store_of melt_of own_of runoff_of ground_of passed_of open_day land_day cell_day arriving water_from water
+    single judged verdict one_each setup_lengths cover_places cover_fits state_fits too_deep day_tests passed own inflow facts_for facts_of facts_at reason_number holds reason_of
+    with_depths explained explained_as why_tests why_of
+why_figures =
     record {
-      on-a-lake = refl;
-      dry-lake = refl;
-      under-snow = refl;
-      a-unit-of-snow = refl;
-      no-water = refl;
-      no-potential = refl;
+      on_a_lake = refl;
+      dry_lake = refl;
+      under_snow_lem = refl;
+      a_unit_of_snow = refl;
+      no_water_lem = refl;
+      no_potential = refl;
       a_unit = refl;
-      just-below = refl;
+      just_below = refl;
       melted = refl;
       met = refl;
-      room-before = refl;
-      just-room = refl;
-      a-unit-over = refl;
-      at-the-largest = refl;
-      above-it = refl;
-      worked-above = refl;
-      worked-below = refl;
-      inflow-alone = refl;
-      refused-day = refl;
+      room_before = refl;
+      just_room = refl;
+      a_unit_over = refl;
+      at_the_largest = refl;
+      above_it = refl;
+      worked_above = refl;
+      worked_below = refl;
+      inflow_alone = refl;
+      refused_day = refl;
       outside = refl;
-      bad-cell-first = refl;
-      before-a-ring = refl;
-      ring-inside = refl;
-      before-the-climate = refl;
-      climate-inside = refl;
-      before-the-day = refl;
+      bad_cell_first = refl;
+      before_a_ring = refl;
+      ring_inside = refl;
+      before_the_climate = refl;
+      climate_inside = refl;
+      before_the_day = refl;
       numbers = refl;
     }

@@ -2,54 +2,54 @@
 use Rattle.std.specs.Prelude.{Bool, true, List, [], ◌∷◌, ◌++◌, ℕ, ◌+◌, length, replicate}
 use Rattle.theory.specs.Lists.{made}
 use Rattle.theory.specs.Sums.{sum, given}
-use Rattle.paper.specs.Directions.{Goes, to, leaves, stays, openWater}
+use Rattle.paper.specs.Directions.{Goes, to, leaves, stays, open_water}
 use Rattle.paper.specs.Setup.{Setup, cell, cells, goes, next}
-use Rattle.paper.specs.State.{State, Day, noPast, pastAfter, freshState, soilAt, snowAt}
-use Rattle.paper.specs.CellDay.{Today, today, own_of, passedOf, Figures, cellDay}
+use Rattle.paper.specs.State.{State, Day, no_past, past_after, fresh_state, soil_at, snow_at}
+use Rattle.paper.specs.CellDay.{Today, today, own_of, passed_of, Figures, cell_day}
 use Rattle.paper.specs.Flow.{arriving, water}
-use Rattle.paper.specs.Refusals.{Verdict, accepted, refused, verdict, setupLengths, setupTests, dayTests}
+use Rattle.paper.specs.Refusals.{Verdict, accepted, refused, verdict, setup_lengths, setup_tests, day_tests}
 
 -- the setup check
-unfoldable pub checkOf : Setup → Verdict
-checkOf s = verdict (setupTests s (setupLengths s))
+unfoldable pub check_of : Setup → Verdict
+check_of s = verdict (setup_tests s (setup_lengths s))
 
 -- a fresh state in lent stores: refused, the stores are as lent, with five zeros, none and no frost
 pub record Fresh : Type 0 where
   pub verdict : Verdict
   pub state : State
 
-unfoldable pub freshAs : Setup → List ℕ → List ℕ → Verdict → Fresh
-freshAs s soil snow accepted = record { verdict = accepted; state = freshState s }
-freshAs s soil snow (refused r) =
-    record { verdict = refused r; state = record { soil = soil; snow = snow; past = noPast } }
+unfoldable pub fresh_as : Setup → List ℕ → List ℕ → Verdict → Fresh
+fresh_as s soil snow accepted = record { verdict = accepted; state = fresh_state s }
+fresh_as s soil snow (refused r) =
+    record { verdict = refused r; state = record { soil = soil; snow = snow; past = no_past } }
 
 unfoldable pub fresh_of : Setup → List ℕ → List ℕ → Fresh
-fresh_of s soil snow = freshAs s soil snow (verdict (setupTests s (setupLengths s ++ length soil ∷ length snow ∷ [])))
+fresh_of s soil snow = fresh_as s soil snow (verdict (setup_tests s (setup_lengths s ++ length soil ∷ length snow ∷ [])))
 
 -- the day's figures of every cell
 module _ (s : Setup) (st : State) (t : Today) where
   unfoldable pub own : ℕ → ℕ
-  own i = own_of (cell s i) t (snowAt st i)
+  own i = own_of (cell s i) t (snow_at st i)
 
   -- each cell's outflow for the water that reached it
   unfoldable pub passed : ℕ → ℕ → ℕ
-  passed i w = passedOf (cell s i) t (soilAt st i) w
+  passed i w = passed_of (cell s i) t (soil_at st i) w
 
   unfoldable pub inflow : ℕ → ℕ
   inflow i = arriving (cells s) (next s) passed (water (cells s) (next s) passed own) i
 
   unfoldable pub figures : ℕ → Figures
-  figures i = cellDay (cell s i) t (soilAt st i) (snowAt st i) (inflow i)
+  figures i = cell_day (cell s i) t (soil_at st i) (snow_at st i) (inflow i)
 
 -- gone from the grid: the outflows of open-water cells and of other cells whose direction leaves the grid
-unfoldable pub isLeaving : Goes → Bool
-isLeaving (to j) = Bool.false
-isLeaving leaves = true
-isLeaving stays = Bool.false
-isLeaving openWater = true
+unfoldable pub is_leaving : Goes → Bool
+is_leaving (to j) = Bool.false
+is_leaving leaves = true
+is_leaving stays = Bool.false
+is_leaving open_water = true
 
-unfoldable pub isGone : Setup → ℕ → Bool
-isGone s i = isLeaving (goes s i)
+unfoldable pub is_gone : Setup → ℕ → Bool
+is_gone s i = is_leaving (goes s i)
 
 -- five results per cell
 pub record Results : Type 0 where
@@ -60,8 +60,8 @@ pub record Results : Type 0 where
   pub rejected : List ℕ
 
 -- one entry a cell, before the first day
-unfoldable pub noResults : ℕ → Results
-noResults n =
+unfoldable pub no_results : ℕ → Results
+no_results n =
     record {
       intercepted = replicate n 0;
       outflow = replicate n 0;
@@ -79,12 +79,12 @@ pub record Totals : Type 0 where
   pub gone : ℕ
   pub stored : ℕ
 
-abbrev pub noTotals : Totals
-noTotals =
+abbrev pub no_totals : Totals
+no_totals =
     record { gross = 0; intercepted = 0; evapotranspired = 0; recharged = 0; rejected = 0; gone = 0; stored = 0 }
 
-unfoldable pub resultsOf : ℕ → (ℕ → Figures) → Results
-resultsOf n figure =
+unfoldable pub results_of : ℕ → (ℕ → Figures) → Results
+results_of n figure =
     record {
       intercepted = made n (λ i. (figure i).intercepted);
       outflow = made n (λ i. (figure i).outflow);
@@ -94,24 +94,24 @@ resultsOf n figure =
     }
 
 -- sums over the cells; rejected recharge leaves the balance in closed depressions alone (02, M-104)
-unfoldable pub totalsOf : Setup → ℕ → (ℕ → Figures) → Totals
-totalsOf s gross figure =
+unfoldable pub totals_of : Setup → ℕ → (ℕ → Figures) → Totals
+totals_of s gross figure =
     record {
       gross = sum (cells s) (λ i. gross);
       intercepted = sum (cells s) (λ i. (figure i).intercepted);
       evapotranspired = sum (cells s) (λ i. (figure i).evapotranspired);
       recharged = sum (cells s) (λ i. (figure i).recharged);
       rejected = sum (cells s) (λ i. given (cell s i).closed? (figure i).rejected);
-      gone = sum (cells s) (λ i. given (isGone s i) (figure i).outflow);
+      gone = sum (cells s) (λ i. given (is_gone s i) (figure i).outflow);
       stored = sum (cells s) (λ i. (figure i).soil + (figure i).snow);
     }
 
-unfoldable pub nextState : Setup → State → Day → (ℕ → Figures) → State
-nextState s st d figure =
+unfoldable pub next_state : Setup → State → Day → (ℕ → Figures) → State
+next_state s st d figure =
     record {
       soil = made (cells s) (λ i. (figure i).soil);
       snow = made (cells s) (λ i. (figure i).snow);
-      past = pastAfter st.past d;
+      past = past_after st.past d;
     }
 
 -- one day: with the lent results as they were before the call
@@ -121,9 +121,9 @@ pub record Outcome : Type 0 where
   pub totals : Totals
   pub state : State
 
-unfoldable pub lengthsOf : Setup → State → Results → List ℕ
-lengthsOf s st r =
-    setupLengths s
+unfoldable pub lengths_of : Setup → State → Results → List ℕ
+lengths_of s st r =
+    setup_lengths s
     ++ length st.soil
     ∷ length st.snow
     ∷ length r.intercepted
@@ -133,21 +133,21 @@ lengthsOf s st r =
     ∷ length r.rejected
     ∷ []
 
-unfoldable pub verdictOf : Setup → State → Results → Day → Verdict
-verdictOf s st r d = verdict (setupTests s (lengthsOf s st r) ++ dayTests s st d)
+unfoldable pub verdict_of : Setup → State → Results → Day → Verdict
+verdict_of s st r d = verdict (setup_tests s (lengths_of s st r) ++ day_tests s st d)
 
-unfoldable pub figuresOf : Setup → State → Day → ℕ → Figures
-figuresOf s st d = figures s st (today s.climate st.past d)
+unfoldable pub figures_of : Setup → State → Day → ℕ → Figures
+figures_of s st d = figures s st (today s.climate st.past d)
 
-unfoldable pub outcomeAs : Setup → State → Results → Day → Verdict → Outcome
-outcomeAs s st r d accepted =
+unfoldable pub outcome_as : Setup → State → Results → Day → Verdict → Outcome
+outcome_as s st r d accepted =
     record {
       verdict = accepted;
-      results = resultsOf (cells s) (figuresOf s st d);
-      totals = totalsOf s d.gross (figuresOf s st d);
-      state = nextState s st d (figuresOf s st d);
+      results = results_of (cells s) (figures_of s st d);
+      totals = totals_of s d.gross (figures_of s st d);
+      state = next_state s st d (figures_of s st d);
     }
-outcomeAs s st r d (refused why) = record { verdict = refused why; results = r; totals = noTotals; state = st }
+outcome_as s st r d (refused why) = record { verdict = refused why; results = r; totals = no_totals; state = st }
 
-unfoldable pub dayOf : Setup → State → Results → Day → Outcome
-dayOf s st r d = outcomeAs s st r d (verdictOf s st r d)
+unfoldable pub day_of : Setup → State → Results → Day → Outcome
+day_of s st r d = outcome_as s st r d (verdict_of s st r d)

@@ -35,7 +35,7 @@ pub data Goes : Type 0 where
   to : ℕ → Goes
   leaves : Goes
   stays : Goes
-  openWater : Goes
+  open_water : Goes
 
 -- cells are numbered from 0, row by row from the top left
 unfoldable pub cell_at : ℕ → Found → Found → Goes
@@ -44,6 +44,6 @@ cell_at width (at row) nowhere = leaves
 cell_at width nowhere (at column) = leaves
 cell_at width nowhere nowhere = leaves
 
-unfoldable pub goesBy : ℕ → ℕ → ℕ → Way → Goes
-goesBy width height i (toward down right) = cell_at width (stepped height down (i / width)) (stepped width right (i % width))
-goesBy width height i closed = stays
+unfoldable pub goes_by : ℕ → ℕ → ℕ → Way → Goes
+goes_by width height i (toward down right) = cell_at width (stepped height down (i / width)) (stepped width right (i % width))
+goes_by width height i closed = stays

@@ -8,10 +8,10 @@ unfoldable pub arriving : ℕ → (ℕ → ℕ) → (ℕ → ℕ → ℕ) → (�
 arriving n next passed reached i = sum n (λ j. given (eqb (next j) i) (passed j (reached j)))
 
 -- the water that reaches i from the cells up to k steps above it
-unfoldable pub waterFrom : ℕ → (ℕ → ℕ) → (ℕ → ℕ → ℕ) → (ℕ → ℕ) → ℕ → ℕ → ℕ
-waterFrom n next passed own zero i = own i
-waterFrom n next passed own (suc k) i = own i + arriving n next passed (waterFrom n next passed own k) i
+unfoldable pub water_from : ℕ → (ℕ → ℕ) → (ℕ → ℕ → ℕ) → (ℕ → ℕ) → ℕ → ℕ → ℕ
+water_from n next passed own zero i = own i
+water_from n next passed own (suc k) i = own i + arriving n next passed (water_from n next passed own k) i
 
 -- no path without a ring has more than n steps
 unfoldable pub water : ℕ → (ℕ → ℕ) → (ℕ → ℕ → ℕ) → (ℕ → ℕ) → ℕ → ℕ
-water n next passed own = waterFrom n next passed own n
+water n next passed own = water_from n next passed own n

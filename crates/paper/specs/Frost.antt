@@ -15,15 +15,15 @@ or_zero (pos n) = n
 or_zero (negsuc n) = 0
 
 -- what an accepted day first sets the index to: floor(97 × index / 100) - floor(1,000 × (mean - 320) / 18), or 0 where that is negative
-unfoldable pub frostAfter : ℕ → ℤ → ℕ
-frostAfter index mean = or_zero (floor (pos (97 * index)) 100 -ℤ floor (pos 1000 *ℤ (mean -ℤ pos freezing)) 18)
+unfoldable pub frost_after : ℕ → ℤ → ℕ
+frost_after index mean = or_zero (floor (pos (97 * index)) 100 -ℤ floor (pos 1000 *ℤ (mean -ℤ pos freezing)) 18)
 
 -- condition I counts as II
-unfoldable pub notDry : Condition → Condition
-notDry I = II
-notDry II = II
-notDry III = III
+unfoldable pub not_dry : Condition → Condition
+not_dry I = II
+not_dry II = II
+not_dry III = III
 
 -- the condition that a day counts as: from the second setpoint on III, from the first on I counts as II
 unfoldable pub counted : Setpoints → ℕ → Condition → Condition
-counted s index condition = cond (leb s.second index) III (cond (leb s.first index) (notDry condition) condition)
+counted s index condition = cond (leb s.second index) III (cond (leb s.first index) (not_dry condition) condition)

@@ -3,64 +3,64 @@ use Rattle.std.specs.Prelude.{Bool, ◌&&◌, ℕ, leb, ℤ, pos, negsuc}
 use Rattle.std.specs.Int.Signed.{le_z}
 
 -- Setup
-abbrev pub mostCells : ℕ
-mostCells = 4096
+abbrev pub most_cells : ℕ
+most_cells = 4096
 
-abbrev pub lastDayOfYear : ℕ
-lastDayOfYear = 366
+abbrev pub last_day_of_year : ℕ
+last_day_of_year = 366
 
-abbrev pub mostCovers : ℕ
-mostCovers = 64
+abbrev pub most_covers : ℕ
+most_covers = 64
 
-abbrev pub mostCode : ℕ
-mostCode = 255
+abbrev pub most_code : ℕ
+most_code = 255
 
-abbrev pub leastCurveNumber : ℕ
-leastCurveNumber = 30
+abbrev pub least_curve_number : ℕ
+least_curve_number = 30
 
-abbrev pub mostCurveNumber : ℕ
-mostCurveNumber = 100
+abbrev pub most_curve_number : ℕ
+most_curve_number = 100
 
-abbrev pub mostLargestRecharge : ℕ
-mostLargestRecharge = 100000
+abbrev pub most_largest_recharge : ℕ
+most_largest_recharge = 100000
 
-abbrev pub mostInterception : ℕ
-mostInterception = 10000
+abbrev pub most_interception : ℕ
+most_interception = 10000
 
 -- hundredths of a foot
-abbrev pub mostRootDepth : ℕ
-mostRootDepth = 1000
+abbrev pub most_root_depth : ℕ
+most_root_depth = 1000
 
 -- hundredths of an inch per foot
-abbrev pub mostAvailableWater : ℕ
-mostAvailableWater = 600
+abbrev pub most_available_water : ℕ
+most_available_water = 600
 
 -- the setpoints of the frost index, in thousandths of a Celsius degree-day
-abbrev pub mostSetpoint : ℕ
-mostSetpoint = 2000000
+abbrev pub most_setpoint : ℕ
+most_setpoint = 2000000
 
 -- State and the day record
-abbrev pub mostSnow : ℕ
-mostSnow = 10000000
+abbrev pub most_snow : ℕ
+most_snow = 10000000
 
-abbrev pub mostGross : ℕ
-mostGross = 400000
+abbrev pub most_gross : ℕ
+most_gross = 400000
 
-abbrev pub mostSerial : ℕ
-mostSerial = 9999999
+abbrev pub most_serial : ℕ
+most_serial = 9999999
 
 -- thousandths of a Celsius degree-day
-abbrev pub mostFrost : ℕ
-mostFrost = 2500000
+abbrev pub most_frost : ℕ
+most_frost = 2500000
 
-abbrev pub leastTemperature : ℤ
-leastTemperature = negsuc 999
+abbrev pub least_temperature : ℤ
+least_temperature = negsuc 999
 
-abbrev pub mostTemperature : ℤ
-mostTemperature = pos 1500
+abbrev pub most_temperature : ℤ
+most_temperature = pos 1500
 
-abbrev pub mostPotential : ℕ
-mostPotential = 20000
+abbrev pub most_potential : ℕ
+most_potential = 20000
 
 -- from low to high, both ends counted
 abbrev pub within : ℕ → ℕ → ℕ → Bool

@@ -3,14 +3,14 @@ use Rattle.std.specs.Prelude.{◌≡◌, List, ℕ, ◌<◌, get_or}
 use Rattle.theory.specs.Lists.{made}
 use Rattle.theory.specs.Sums.{sum}
 use Rattle.paper.specs.Setup.{Setup, cells}
-use Rattle.paper.specs.State.{Day, freshState}
+use Rattle.paper.specs.State.{Day, fresh_state}
 use Rattle.paper.specs.Refusals.{accepted}
-use Rattle.paper.specs.Day.{Results, Totals, Outcome, noResults, dayOf}
+use Rattle.paper.specs.Day.{Results, Totals, Outcome, no_results, day_of}
 use Rattle.paper.specs.Run.{Standing, start, days}
 
 -- from the fresh state, before any day has results
-abbrev pub freshRun : Setup → Standing
-freshRun s = start (freshState s) (noResults (cells s))
+abbrev pub fresh_run : Setup → Standing
+fresh_run s = start (fresh_state s) (no_results (cells s))
 
 -- from where a run stands, over days counted from 0
 module _ (s : Setup) (run : Standing) (day : ℕ → Day) where
@@ -19,17 +19,17 @@ module _ (s : Setup) (run : Standing) (day : ℕ → Day) where
   after k = days s run (made k day)
 
   -- what day j does, from where the run stands before it
-  unfoldable pub outcomeOn : ℕ → Outcome
-  outcomeOn j = dayOf s (after j).state (after j).results (day j)
+  unfoldable pub outcome_on : ℕ → Outcome
+  outcome_on j = day_of s (after j).state (after j).results (day j)
 
   -- the first k are all accepted
   abbrev pub AllAccepted : ℕ → Type 0
-  AllAccepted k = (j : ℕ) → j < k → (outcomeOn j).verdict ≡ accepted
+  AllAccepted k = (j : ℕ) → j < k → (outcome_on j).verdict ≡ accepted
 
   -- a figure of cell i, added up over the first k days
   unfoldable pub summed : (Results → List ℕ) → ℕ → ℕ → ℕ
-  summed figure k i = sum k (λ j. get_or (figure (outcomeOn j).results) i 0)
+  summed figure k i = sum k (λ j. get_or (figure (outcome_on j).results) i 0)
 
   -- a total of the grid, added up over them
   unfoldable pub totalled : (Totals → ℕ) → ℕ → ℕ
-  totalled part k = sum k (λ j. part (outcomeOn j).totals)
+  totalled part k = sum k (λ j. part (outcome_on j).totals)

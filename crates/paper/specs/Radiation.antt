@@ -30,7 +30,7 @@ pub data Estimate : Type 0 where
   -- radiation R in cal/cm² a day, and humidity H
   turc : Float → Float → Estimate
   -- radiation alone
-  jensenHaise : Float → Estimate
+  jensen_haise : Float → Estimate
 
 -- a day's weather: mean Celsius T and the chosen estimate
 pub record Weather : Type 0 where
@@ -41,21 +41,21 @@ pub record Weather : Type 0 where
 unfoldable pub between : Float → Float → Float → Bool
 between low high x = le low x && le x high
 
-unfoldable pub meanFits : Float → Bool
-meanFits t = between (neg (whole 60)) (whole 60) t
+unfoldable pub mean_fits : Float → Bool
+mean_fits t = between (neg (whole 60)) (whole 60) t
 
-unfoldable pub radiationFits : Float → Bool
-radiationFits r = between (whole 0) (whole 1000) r
+unfoldable pub radiation_fits : Float → Bool
+radiation_fits r = between (whole 0) (whole 1000) r
 
-unfoldable pub humidityFits : Float → Bool
-humidityFits h = between (whole 0) (whole 100) h
+unfoldable pub humidity_fits : Float → Bool
+humidity_fits h = between (whole 0) (whole 100) h
 
-unfoldable pub estimateFits : Estimate → Bool
-estimateFits (turc r h) = radiationFits r && humidityFits h
-estimateFits (jensenHaise r) = radiationFits r
+unfoldable pub estimate_fits : Estimate → Bool
+estimate_fits (turc r h) = radiation_fits r && humidity_fits h
+estimate_fits (jensen_haise r) = radiation_fits r
 
-unfoldable pub weatherFits : Weather → Bool
-weatherFits w = meanFits w.mean && estimateFits w.estimate
+unfoldable pub weather_fits : Weather → Bool
+weather_fits w = mean_fits w.mean && estimate_fits w.estimate
 
 -- ((0.013 × T) / (T + 15)) × (R + 50)
 unfoldable pub humid : Float → Float → Float
@@ -66,32 +66,32 @@ unfoldable pub dryness : Float → Float
 dryness h = whole 1 ⊕ (whole 50 ⊖ h) ⊘ whole 70
 
 -- 0 if T ≤ 0
-unfoldable pub turcOf : Float → Float → Float → Float
-turcOf t r h = cond (le t (whole 0)) (whole 0) (cond (lt h (whole 50)) (humid t r ⊗ dryness h) (humid t r))
+unfoldable pub turc_of : Float → Float → Float → Float
+turc_of t r h = cond (le t (whole 0)) (whole 0) (cond (lt h (whole 50)) (humid t r ⊗ dryness h) (humid t r))
 
 -- (R / 59) × (0.025 × T + 0.08), or 0 if that is below 0
-unfoldable pub jensenHaiseBy : Float → Float → Float
-jensenHaiseBy t r = (r ⊘ whole 59) ⊗ (decimal 25 1000 ⊗ t ⊕ decimal 8 100)
+unfoldable pub jensen_haise_by : Float → Float → Float
+jensen_haise_by t r = (r ⊘ whole 59) ⊗ (decimal 25 1000 ⊗ t ⊕ decimal 8 100)
 
-unfoldable pub jensenHaiseOf : Float → Float → Float
-jensenHaiseOf t r = cond (lt (jensenHaiseBy t r) (whole 0)) (whole 0) (jensenHaiseBy t r)
+unfoldable pub jensen_haise_of : Float → Float → Float
+jensen_haise_of t r = cond (lt (jensen_haise_by t r) (whole 0)) (whole 0) (jensen_haise_by t r)
 
 unfoldable pub millimetres : Float → Estimate → Float
-millimetres t (turc r h) = turcOf t r h
-millimetres t (jensenHaise r) = jensenHaiseOf t r
+millimetres t (turc r h) = turc_of t r h
+millimetres t (jensen_haise r) = jensen_haise_of t r
 
 -- the millimetres times 100,000, divided by 254, give units
-unfoldable pub unitsOf : Float → Float
-unitsOf mm = mm ⊗ whole 100000 ⊘ whole 254
+unfoldable pub units_of : Float → Float
+units_of mm = mm ⊗ whole 100000 ⊘ whole 254
 
 -- the greatest whole number not above a value that is not below zero
-unfoldable pub floorOf : Float → ℕ
-floorOf nan = 0
-floorOf (inf s) = 0
-floorOf (fin s m e) = cond s 0 (m * up e / down e)
+unfoldable pub floor_of : Float → ℕ
+floor_of nan = 0
+floor_of (inf s) = 0
+floor_of (fin s m e) = cond s 0 (m * up e / down e)
 
-unfoldable pub potentialOf : Weather → ℕ
-potentialOf w = floorOf (unitsOf (millimetres w.mean w.estimate))
+unfoldable pub potential_of : Weather → ℕ
+potential_of w = floor_of (units_of (millimetres w.mean w.estimate))
 
 -- what comes back: an estimate, or that a reading is outside its limits or is not a number
 pub data Estimated : Type 0 where
@@ -99,18 +99,18 @@ pub data Estimated : Type 0 where
   readings : Estimated
 
 -- the refusal's number and place: 0 and 0 where there is an estimate
-unfoldable pub estimateNumber : Estimated → ℕ
-estimateNumber (estimated n) = 0
-estimateNumber readings = 13
+unfoldable pub estimate_number : Estimated → ℕ
+estimate_number (estimated n) = 0
+estimate_number readings = 13
 
-unfoldable pub estimatePlace : Estimated → ℕ
-estimatePlace (estimated n) = 0
-estimatePlace readings = 0
+unfoldable pub estimate_place : Estimated → ℕ
+estimate_place (estimated n) = 0
+estimate_place readings = 0
 
 -- refused, the estimate is 0
-unfoldable pub estimateUnits : Estimated → ℕ
-estimateUnits (estimated n) = n
-estimateUnits readings = 0
+unfoldable pub estimate_units : Estimated → ℕ
+estimate_units (estimated n) = n
+estimate_units readings = 0
 
-unfoldable pub estimatedOf : Weather → Estimated
-estimatedOf w = cond (weatherFits w) (estimated (potentialOf w)) readings
+unfoldable pub estimated_of : Weather → Estimated
+estimated_of w = cond (weather_fits w) (estimated (potential_of w)) readings

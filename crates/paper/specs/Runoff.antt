@@ -1,9 +1,9 @@
--- Rule 6, runoff by the curve number (SCS, abstraction 0.2). Where the paper's a is not above 0, `beyondAbstraction` is 0, and the runoff is 0.
+-- Rule 6, runoff by the curve number (SCS, abstraction 0.2). Where the paper's a is not above 0, `beyond_abstraction` is 0, and the runoff is 0.
 use Rattle.std.specs.Prelude.{ℕ, ◌+◌, ◌-◌, ◌*◌, ◌/◌}
 
 -- a = c(w + 20,000) - 2,000,000
-unfoldable pub beyondAbstraction : ℕ → ℕ → ℕ
-beyondAbstraction c w = c * (w + 20000) - 2000000
+unfoldable pub beyond_abstraction : ℕ → ℕ → ℕ
+beyond_abstraction c w = c * (w + 20000) - 2000000
 
 -- b = c(w - 80,000) + 8,000,000, for c up to 100
 unfoldable pub spread : ℕ → ℕ → ℕ
@@ -11,4 +11,4 @@ spread c w = c * w + 8000000 - 80000 * c
 
 -- floor(a² / (c × b))
 unfoldable pub runoff : ℕ → ℕ → ℕ
-runoff c w = beyondAbstraction c w * beyondAbstraction c w / (c * spread c w)
+runoff c w = beyond_abstraction c w * beyond_abstraction c w / (c * spread c w)

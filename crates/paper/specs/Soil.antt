@@ -13,8 +13,8 @@ unfoldable pub excess : ℕ → ℕ → ℕ → ℕ → ℕ
 excess C soil n E = soil + n - E - C
 
 -- rule 7, n ≥ E
-unfoldable pub wetDay : ℕ → ℕ → ℕ → ℕ → ℕ → SoilDay
-wetDay C largest soil n E =
+unfoldable pub wet_day : ℕ → ℕ → ℕ → ℕ → ℕ → SoilDay
+wet_day C largest soil n E =
     record {
       evapotranspired = E;
       recharged = min (excess C soil n E) largest;
@@ -23,8 +23,8 @@ wetDay C largest soil n E =
     }
 
 -- rule 8, n < E
-unfoldable pub dryDay : ℕ → ℕ → ℕ → ℕ → SoilDay
-dryDay C soil n E =
+unfoldable pub dry_day : ℕ → ℕ → ℕ → ℕ → SoilDay
+dry_day C soil n E =
     record {
       evapotranspired = n + loss C soil (E - n);
       recharged = 0;
@@ -32,5 +32,5 @@ dryDay C soil n E =
       soil = soil - loss C soil (E - n);
     }
 
-unfoldable pub soilDay : ℕ → ℕ → ℕ → ℕ → ℕ → SoilDay
-soilDay C largest soil n E = cond (leb E n) (wetDay C largest soil n E) (dryDay C soil n E)
+unfoldable pub soil_day : ℕ → ℕ → ℕ → ℕ → ℕ → SoilDay
+soil_day C largest soil n E = cond (leb E n) (wet_day C largest soil n E) (dry_day C soil n E)

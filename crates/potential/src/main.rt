@@ -1,5 +1,7 @@
 // The program `potential`: standard input's readings, a line a day, their answers by `station::potential_text`, and those to standard output. Where the input
 // can't be read nothing is printed; a failed read or write is said on standard error.
+#![tactic(auto)]
+
 ghost use Rattle.std.specs.Prelude.{◌≡◌, length};
 
 use intake::Input;

@@ -6,13 +6,13 @@ use Rattle.radiation.specs.declared.weather.Weather.{Weather}
 use Rattle.radiation.specs.declared.answers.Potential.{Potential}
 use Rattle.radiation.specs.declared.answers.Potential.TheVariants.{Estimated, Readings}
 
-abbrev pub estimateAs : Estimate → paper.Estimate
-estimateAs (Turc radiation humidity) = paper.turc radiation humidity
-estimateAs (JensenHaise radiation) = paper.jensenHaise radiation
+abbrev pub estimate_as : Estimate → paper.Estimate
+estimate_as (Turc radiation humidity) = paper.turc radiation humidity
+estimate_as (JensenHaise radiation) = paper.jensen_haise radiation
 
-abbrev pub weatherAs : Weather → paper.Weather
-weatherAs w = record { mean = w.mean; estimate = estimateAs w.estimate }
+abbrev pub weather_as : Weather → paper.Weather
+weather_as w = record { mean = w.mean; estimate = estimate_as w.estimate }
 
-abbrev pub potentialAs : Potential → paper.Estimated
-potentialAs (Estimated depth) = paper.estimated depth.0
-potentialAs Readings = paper.readings
+abbrev pub potential_as : Potential → paper.Estimated
+potential_as (Estimated depth) = paper.estimated depth.0
+potential_as Readings = paper.readings

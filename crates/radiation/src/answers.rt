@@ -1,11 +1,11 @@
 // What comes back of a day's weather.
 ghost use Rattle.std.specs.Prelude.{◌≡◌, ◌≤◌};
-ghost use Rattle.paper.specs.Radiation.{estimateNumber, estimatePlace, estimateUnits};
-ghost use Rattle.radiation.specs.Estimates.{potentialAs};
+ghost use Rattle.paper.specs.Radiation.{estimate_number, estimate_place, estimate_units};
+ghost use Rattle.radiation.specs.Estimates.{potential_as};
 
 use records::Depth;
 
-#[derive(Drop)]
+#[derive(Clone, Copy)]
 pub enum Potential {
     Estimated(Depth),
     // Refused: a reading is outside its limits or is not a number.
@@ -15,7 +15,7 @@ pub enum Potential {
 impl Potential {
     // The refusal's; 0 where there is none.
     pub fn number(self) -> u32
-        ensures { (result ≡ estimateNumber (potentialAs self)) × (result ≤ 13) }
+        ensures { (result ≡ estimate_number (potential_as self)) × (result ≤ 13) }
     {
         match self {
             Potential::Estimated(_) => 0,
@@ -24,7 +24,7 @@ impl Potential {
     }
 
     pub fn place(self) -> usize
-        ensures { (result ≡ estimatePlace (potentialAs self)) × (result ≡ 0) }
+        ensures { (result ≡ estimate_place (potential_as self)) × (result ≡ 0) }
     {
         match self {
             Potential::Estimated(_) => 0,
@@ -34,7 +34,7 @@ impl Potential {
 
     // 0 where it is refused.
     pub fn depth(self) -> Depth
-        ensures { result.0 ≡ estimateUnits (potentialAs self) }
+        ensures { result.0 ≡ estimate_units (potential_as self) }
     {
         match self {
             Potential::Estimated(depth) => depth,

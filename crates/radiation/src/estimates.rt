@@ -1,7 +1,7 @@
 // The two estimates: every operation is rounded once, in the order of document 02.
 ghost use Rattle.std.specs.Prelude.{◌≡◌, ◌≤◌};
-ghost use Rattle.paper.specs.Radiation.{turcOf, jensenHaiseOf, millimetres as millimetresOf, unitsOf, estimateUnits, estimatedOf};
-ghost use Rattle.radiation.specs.Estimates.{weatherAs, estimateAs, potentialAs};
+ghost use Rattle.paper.specs.Radiation.{turc_of, jensen_haise_of, millimetres as millimetresOf, units_of, estimate_units, estimated_of};
+ghost use Rattle.radiation.specs.Estimates.{weather_as, estimate_as, potential_as};
 
 use crate::answers::Potential;
 use crate::limits::weather_fits;
@@ -18,7 +18,7 @@ const MILLIMETRES: f64 = 254.0;
 
 // In millimetres.
 fn turc(mean: f64, radiation: f64, humidity: f64) -> f64
-    ensures { result ≡ turcOf mean radiation humidity }
+    ensures { result ≡ turc_of mean radiation humidity }
 {
     if mean <= 0.0 {
         return 0.0;
@@ -32,7 +32,7 @@ fn turc(mean: f64, radiation: f64, humidity: f64) -> f64
 
 // In millimetres.
 fn jensen_haise(mean: f64, radiation: f64) -> f64
-    ensures { result ≡ jensenHaiseOf mean radiation }
+    ensures { result ≡ jensen_haise_of mean radiation }
 {
     let estimate = (radiation / 59.0) * (0.025 * mean + 0.08);
     if estimate < 0.0 {
@@ -42,7 +42,7 @@ fn jensen_haise(mean: f64, radiation: f64) -> f64
 }
 
 fn millimetres(mean: f64, estimate: Estimate) -> f64
-    ensures { result ≡ millimetresOf mean (estimateAs estimate) }
+    ensures { result ≡ millimetresOf mean (estimate_as estimate) }
 {
     match estimate {
         Estimate::Turc(radiation, humidity) => turc(mean, radiation, humidity),
@@ -51,14 +51,14 @@ fn millimetres(mean: f64, estimate: Estimate) -> f64
 }
 
 fn units(millimetres: f64) -> f64
-    ensures { result ≡ unitsOf millimetres }
+    ensures { result ≡ units_of millimetres }
 {
     millimetres * UNITS / MILLIMETRES
 }
 
 // Potential evapotranspiration of a day, never more than the most that a day may have: the greatest whole number of units not above the estimate.
 pub fn potential(weather: Weather) -> Potential
-    ensures { (potentialAs result ≡ estimatedOf (weatherAs weather)) × (estimateUnits (potentialAs result) ≤ 20000) }
+    ensures { (potential_as result ≡ estimated_of (weather_as weather)) × (estimate_units (potential_as result) ≤ 20000) }
 {
     if !weather_fits(weather) {
         return Potential::Readings;

@@ -1,4 +1,6 @@
 // Potential evapotranspiration from a day's radiation (M-103), by Turc or by Jensen and Haise, in f64.
+#![tactic(auto)]
+
 mod answers;
 mod estimates;
 mod limits;

@@ -1,7 +1,7 @@
 // A day's weather as a station reads it.
 
 // The chosen estimate with its own readings.
-#[derive(Drop)]
+#[derive(Clone, Copy)]
 pub enum Estimate {
     // Radiation in cal/cm² a day, and humidity in percent.
     Turc(f64, f64),
@@ -9,7 +9,7 @@ pub enum Estimate {
     JensenHaise(f64),
 }
 
-#[derive(Drop)]
+#[derive(Clone, Copy)]
 pub struct Weather {
     // Degrees Celsius.
     pub mean: f64,

@@ -14,8 +14,8 @@ pub record Left : Type 0 where
   pub soil : ℕ
   pub snow : ℕ
 
-abbrev pub leftAs : code.Left → Left
-leftAs r =
+abbrev pub left_as : code.Left → Left
+left_as r =
     record {
       outflow = r.outflow;
       evapotranspired = r.evapotranspired;
@@ -26,8 +26,8 @@ leftAs r =
     }
 
 -- what six lists hold of a cell
-abbrev pub leftBy : List ℕ → List ℕ → List ℕ → List ℕ → List ℕ → List ℕ → ℕ → Left
-leftBy outflow evapotranspired recharged rejected soil snow i =
+abbrev pub left_by : List ℕ → List ℕ → List ℕ → List ℕ → List ℕ → List ℕ → ℕ → Left
+left_by outflow evapotranspired recharged rejected soil snow i =
     record {
       outflow = get_or outflow i 0;
       evapotranspired = get_or evapotranspired i 0;
@@ -38,20 +38,20 @@ leftBy outflow evapotranspired recharged rejected soil snow i =
     }
 
 -- from the soil before the day
-unfoldable pub infiltrationFrom : ℕ → Left → ℕ
-infiltrationFrom before r = r.evapotranspired + r.recharged + r.rejected + r.soil - before
+unfoldable pub infiltration_from : ℕ → Left → ℕ
+infiltration_from before r = r.evapotranspired + r.recharged + r.rejected + r.soil - before
 
-unfoldable pub factsFrom : Ground → ℕ → ℕ → ℕ → Left → Facts
-factsFrom g gross potential before r =
+unfoldable pub facts_from : Ground → ℕ → ℕ → ℕ → Left → Facts
+facts_from g gross potential before r =
     record {
       open? = g.open?;
       gross = gross;
       inflow = r.outflow - gross;
-      water = infiltrationFrom before r + (r.outflow - r.rejected);
-      endSnow = r.snow;
-      infiltration = infiltrationFrom before r;
+      water = infiltration_from before r + (r.outflow - r.rejected);
+      end_snow = r.snow;
+      infiltration = infiltration_from before r;
       potential = potential;
-      surplus = infiltrationFrom before r - potential;
+      surplus = infiltration_from before r - potential;
       room = g.capacity - before;
       excess = r.recharged + r.rejected;
       recharged = r.recharged;
@@ -59,14 +59,14 @@ factsFrom g gross potential before r =
     }
 
 -- the code's facts as the paper's; it keeps no figure of what recharged
-abbrev pub factsAs : asked.Facts → ℕ → Facts
-factsAs f recharged =
+abbrev pub facts_as : asked.Facts → ℕ → Facts
+facts_as f recharged =
     record {
       open? = f.open_water;
       gross = f.gross.0;
       inflow = f.inflow.0;
       water = f.water.0;
-      endSnow = f.end_snow.0;
+      end_snow = f.end_snow.0;
       infiltration = f.infiltration.0;
       potential = f.potential.0;
       surplus = f.surplus.0;

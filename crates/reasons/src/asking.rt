@@ -1,12 +1,12 @@
 // The call: a day of the library on copies of the stores, and the reason for one cell's figures.
 ghost use Rattle.std.specs.Prelude.{◌≡◌, ◌≤◌, length, take};
 ghost use Rattle.paper.specs.Setup.{cells_of};
-ghost use Rattle.paper.specs.Reasons.{whyOf};
-ghost use Rattle.records.specs.Grids.{gridAs, setupAs};
-ghost use Rattle.records.specs.Past.{stateAs};
-ghost use Rattle.records.specs.Days.{dayAs};
-ghost use Rattle.records.specs.Verdicts.{verdictAs};
-ghost use Rattle.reasons.specs.Whys.{whyAs};
+ghost use Rattle.paper.specs.Reasons.{why_of};
+ghost use Rattle.records.specs.Grids.{grid_as, setup_as};
+ghost use Rattle.records.specs.Past.{state_as};
+ghost use Rattle.records.specs.Days.{day_as};
+ghost use Rattle.records.specs.Verdicts.{verdict_as};
+ghost use Rattle.reasons.specs.Whys.{why_as};
 ghost use Rattle.reasons.specs.Asked.{asked_of, Copied};
 
 use crate::grounds::ground_at;
@@ -19,7 +19,7 @@ const CELL_TEST: u32 = 4;
 
 // The cell asked about is tested among the cells of test 4: after those of the grid, and before the tests that come later.
 pub fn asked(verdict: Verdict, grid: Grid, cell: usize) -> Verdict
-    ensures { verdictAs result ≡ asked_of (cells_of (gridAs grid)) cell (verdictAs verdict) }
+    ensures { verdict_as result ≡ asked_of (cells_of (grid_as grid)) cell (verdict_as verdict) }
 {
     if cell < grid.cells() {
         return verdict;
@@ -60,9 +60,9 @@ pub fn why(
     day: DayRecord,
     cell: usize,
 ) -> Why
-    ensures { whyAs result ≡ whyOf
-        (setupAs grid climate covers.now direction.now cover.now group.now available.now)
-        (stateAs soil.now snow.now past) (dayAs day) cell }
+    ensures { why_as result ≡ why_of
+        (setup_as grid climate covers.now direction.now cover.now group.now available.now)
+        (state_as soil.now snow.now past) (day_as day) cell }
 {
     if !grid.fits() {
         return Why::Refused(Refusal::Grid);

@@ -1,12 +1,12 @@
 // What a cell's soil and cover can take, by its own numbers.
 ghost use Rattle.std.specs.Prelude.{◌≡◌, ◌+◌, ◌*◌, ◌≤◌, ◌<◌, length, get_or};
 ghost use Rattle.paper.specs.Covers.{entries, number_of};
-ghost use Rattle.reasons.specs.Grounds.{entryFor, groundAs, groundBy};
+ghost use Rattle.reasons.specs.Grounds.{entry_for, ground_as, ground_by};
 
 use covers::{ENTRY_NUMBERS, LARGEST_RECHARGES, OPEN_FLAG, ROOT_DEPTHS, capacity};
 use records::{Depth, depth, index_of};
 
-#[derive(Drop)]
+#[derive(Clone, Copy)]
 pub(crate) struct Ground {
     pub(crate) open_water: bool,
     pub(crate) capacity: Depth,
@@ -15,7 +15,7 @@ pub(crate) struct Ground {
 
 // The entry of a code; past the last one where the table does not have it.
 fn entry_for(covers: &[u32], code: u32) -> usize
-    ensures { (result ≡ entryFor covers.now code) × (16 * result ≤ length covers.now) }
+    ensures { (result ≡ entry_for covers.now code) × (16 * result ≤ length covers.now) }
 {
     let count = covers.len() / ENTRY_NUMBERS;
     let mut e = 0;
@@ -41,7 +41,7 @@ fn number_of(covers: &[u32], entry: usize, k: usize) -> u32
 }
 
 pub(crate) fn ground_of(covers: &[u32], code: u32, group: u32, available: u32) -> Ground
-    ensures { groundAs result ≡ groundBy covers.now code group available }
+    ensures { ground_as result ≡ ground_by covers.now code group available }
 {
     let entry = entry_for(covers, code);
     let of_group = index_of(group);
@@ -63,7 +63,7 @@ pub(crate) fn ground_at(
     cell: usize,
 ) -> Ground
     requires { (cell < length cover.now) × (cell < length group.now) × (cell < length available.now) }
-    ensures { groundAs result ≡ groundBy covers.now (get_or cover.now cell 0) (get_or group.now cell 0) (get_or available.now cell 0) }
+    ensures { ground_as result ≡ ground_by covers.now (get_or cover.now cell 0) (get_or group.now cell 0) (get_or available.now cell 0) }
 {
     ground_of(covers, cover[cell], group[cell], available[cell])
 }

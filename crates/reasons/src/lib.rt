@@ -1,4 +1,6 @@
 // Why a cell got its figures on a day (M-105): the first true reason of seven and two depths, read back from the figures that the library's day promises.
+#![tactic(auto)]
+
 mod asking;
 mod grounds;
 mod reading;

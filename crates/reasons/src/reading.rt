@@ -1,16 +1,16 @@
 // The reason, read back from a cell's figures.
 ghost use Rattle.std.specs.Prelude.{◌≡◌, ℕ, ◌-◌, ◌≤◌, ◌<◌};
 ghost use Rattle.paper.specs.Reasons.{explained};
-ghost use Rattle.reasons.specs.Whys.{whyAs};
-ghost use Rattle.reasons.specs.Grounds.{groundAs};
-ghost use Rattle.reasons.specs.Reading.{leftAs, leftBy, infiltrationFrom, factsAs, factsFrom};
+ghost use Rattle.reasons.specs.Whys.{why_as};
+ghost use Rattle.reasons.specs.Grounds.{ground_as};
+ghost use Rattle.reasons.specs.Reading.{left_as, left_by, infiltration_from, facts_as, facts_from};
 
 use crate::grounds::Ground;
 use crate::whys::Why;
 use records::{Depth, MOST_CELLS, depth};
 
 // What a day left of a cell.
-#[derive(Drop)]
+#[derive(Clone, Copy)]
 pub(crate) struct Left {
     pub(crate) outflow: u32,
     pub(crate) evapotranspired: u32,
@@ -21,7 +21,7 @@ pub(crate) struct Left {
 }
 
 // What the reasons speak of.
-#[derive(Drop)]
+#[derive(Clone, Copy)]
 pub(crate) struct Facts {
     open_water: bool,
     gross: Depth,
@@ -47,7 +47,7 @@ pub(crate) fn left_at(
     cell: usize,
 ) -> Left
     requires { cell < 4096 }
-    ensures { leftAs result ≡ leftBy outflow.now evapotranspired.now recharged.now rejected.now soil.now snow.now cell }
+    ensures { left_as result ≡ left_by outflow.now evapotranspired.now recharged.now rejected.now soil.now snow.now cell }
 {
     Left {
         outflow: outflow[cell],
@@ -61,7 +61,7 @@ pub(crate) fn left_at(
 
 // The soil's account: what sank in was evapotranspired, recharged or rejected, or it is in the soil and was not there before.
 fn sank_in(before: u32, day: Left) -> Depth
-    ensures { (result.0 ≡ infiltrationFrom before (leftAs day)) × (result.0 ≤ 17179869184) }
+    ensures { (result.0 ≡ infiltration_from before (left_as day)) × (result.0 ≤ 17179869184) }
 {
     let gone = day.evapotranspired as u64 + day.recharged as u64 + day.rejected as u64;
     Depth(gone + day.soil as u64).beyond(depth(before))
@@ -83,7 +83,7 @@ pub(crate) fn facts_of(
     before: u32,
     day: Left,
 ) -> Facts
-    ensures { factsAs result day.recharged ≡ factsFrom (groundAs ground) gross.0 potential.0 before (leftAs day) }
+    ensures { facts_as result day.recharged ≡ facts_from (ground_as ground) gross.0 potential.0 before (left_as day) }
 {
     let outflow = depth(day.outflow);
     let capacity = ground.capacity;
@@ -107,7 +107,7 @@ pub(crate) fn facts_of(
 
 // The first true reason. How much of the excess recharged is not asked: where the six before it are false, all of it did.
 pub(crate) fn first_true(facts: Facts) -> Why
-    ensures { (recharged : ℕ) → whyAs result ≡ explained (factsAs facts recharged) }
+    ensures { (recharged : ℕ) → why_as result ≡ explained (facts_as facts recharged) }
 {
     let water = facts.water;
     let snow = facts.end_snow;

@@ -1,11 +1,11 @@
 // The answer: a reason with its two depths, or the refusal of the day.
 ghost use Rattle.std.specs.Prelude.{◌≡◌, ◌≤◌};
-ghost use Rattle.records.specs.Verdicts.{verdictAs};
-ghost use Rattle.reasons.specs.Whys.{whyAs, whyNumber, firstDepth, secondDepth, whyVerdict};
+ghost use Rattle.records.specs.Verdicts.{verdict_as};
+ghost use Rattle.reasons.specs.Whys.{why_as, why_number, first_depth, second_depth, why_verdict};
 
 use records::{Depth, Refusal, Verdict};
 
-#[derive(Drop)]
+#[derive(Clone, Copy)]
 pub enum Why {
     // Gross precipitation and inflow.
     OpenWater(Depth, Depth),
@@ -25,7 +25,7 @@ pub enum Why {
 impl Why {
     // 1 to 7, and 0 for a refusal.
     pub fn number(self) -> u32
-        ensures { (result ≡ whyNumber (whyAs self)) × (result ≤ 7) }
+        ensures { (result ≡ why_number (why_as self)) × (result ≤ 7) }
     {
         match self {
             Why::OpenWater(_, _) => 1,
@@ -41,7 +41,7 @@ impl Why {
 
     // Its two depths; 0 for a refusal.
     pub fn first(self) -> Depth
-        ensures { result.0 ≡ firstDepth (whyAs self) }
+        ensures { result.0 ≡ first_depth (why_as self) }
     {
         match self {
             Why::OpenWater(depth, _) => depth,
@@ -56,7 +56,7 @@ impl Why {
     }
 
     pub fn second(self) -> Depth
-        ensures { result.0 ≡ secondDepth (whyAs self) }
+        ensures { result.0 ≡ second_depth (why_as self) }
     {
         match self {
             Why::OpenWater(_, depth) => depth,
@@ -72,7 +72,7 @@ impl Why {
 
     // Whether there is a reason: the verdict on the day and the cell.
     pub fn verdict(self) -> Verdict
-        ensures { verdictAs result ≡ whyVerdict (whyAs self) }
+        ensures { verdict_as result ≡ why_verdict (why_as self) }
     {
         match self {
             Why::OpenWater(_, _) => Verdict::Accepted,

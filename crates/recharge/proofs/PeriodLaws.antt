@@ -14,98 +14,98 @@ use lib.Seq.{sets, length-sets, length-take-le}
 use borrow.Author.Tests.{eq-eqb, lt-ltb, le-ltb}
 use Rattle.theory.specs.Lists.{made}
 use Rattle.theory.specs.Sums.{sum}
-use Rattle.theory.proofs.Cases.{below_or_not, and_both, cond-true, cond-false}
-use Rattle.theory.proofs.ListLaws.{made_at, made-length, sets-append}
+use Rattle.theory.proofs.Cases.{below_or_not, and_both, cond_true, cond_false}
+use Rattle.theory.proofs.ListLaws.{made_at, made_length, sets_append}
 use Rattle.paper.specs.Setup.{Setup, cells}
-use Rattle.paper.specs.State.{State, Day, freshState}
-use Rattle.paper.specs.Refusals.{Refusal, Verdict, accepted, refused, oneEach}
-use Rattle.paper.specs.Day.{Results, Totals, Outcome, dayOf}
+use Rattle.paper.specs.State.{State, Day, fresh_state}
+use Rattle.paper.specs.Refusals.{Refusal, Verdict, accepted, refused, one_each}
+use Rattle.paper.specs.Day.{Results, Totals, Outcome, day_of}
 use Rattle.paper.specs.Run.{start, days}
-use Rattle.paper.specs.Period.{freshRun, after, outcomeOn, AllAccepted, summed}
-use Rattle.paper.proofs.DayLaws.{verdict-is, refused-is}
-use Rattle.paper.proofs.PeriodLaws.{state-next, results_next, few-days}
-use Rattle.records.specs.Past.{stateAs}
-use Rattle.records.specs.Verdicts.{refusalAs, verdictAs}
+use Rattle.paper.specs.Period.{fresh_run, after, outcome_on, AllAccepted, summed}
+use Rattle.paper.proofs.DayLaws.{verdict_is, refused_is}
+use Rattle.paper.proofs.PeriodLaws.{state_next, results_next, few_days}
+use Rattle.records.specs.Past.{state_as}
+use Rattle.records.specs.Verdicts.{refusal_as, verdict_as}
 use Rattle.records.specs.declared.verdicts.Verdict as code
 use Rattle.records.specs.declared.verdicts.Verdict.TheVariants.{Accepted, Refused}
 use Rattle.records.specs.declared.past.Past.{Past}
-use Rattle.records.proofs.FrontLaws.{parts, Room, no-results, room}
-use Rattle.daybook.specs.Days.{dayIn}
+use Rattle.records.proofs.FrontLaws.{parts, Room, no_results_lem, room}
+use Rattle.daybook.specs.Days.{day_in}
 use Rattle.daybook.specs.Totals.{seven, ledger}
-use Rattle.daybook.proofs.TotalsLaws.{ledger-length}
-use Rattle.recharge.specs.Surveyed.{lentLengths}
-use Rattle.recharge.specs.Period.{DayAdded, Addable, SumsOf, Begun, verdictAt, Went}
+use Rattle.daybook.proofs.TotalsLaws.{ledger_length}
+use Rattle.recharge.specs.Surveyed.{lent_lengths}
+use Rattle.recharge.specs.Period.{DayAdded, Addable, SumsOf, Begun, verdict_at, Went}
 
 -- before day k, with the arrays from whose fronts the results are lent
 pub record Underway (s : Setup) (ns : List ℤ) (totals₀ : List ℕ) (st : State) (sums totals i o e r j : List ℕ) (k : ℕ) : Type 0 where
   pub within : k ≤ length ns / 7
-  pub before : AllAccepted s (freshRun s) (dayIn ns) k
-  pub state-is : st ≡ (after s (freshRun s) (dayIn ns) k).state
+  pub before : AllAccepted s (fresh_run s) (day_in ns) k
+  pub state_is : st ≡ (after s (fresh_run s) (day_in ns) k).state
   pub soils : length st.soil ≡ cells s
   pub snows : length st.snow ≡ cells s
   pub room : Room (length s.available) i o e r j
-  pub results-are : parts (length s.available) i o e r j ≡ (after s (freshRun s) (dayIn ns) k).results
-  pub sums-are : SumsOf s (dayIn ns) k sums
+  pub results_are : parts (length s.available) i o e r j ≡ (after s (fresh_run s) (day_in ns) k).results
+  pub sums_are : SumsOf s (day_in ns) k sums
   pub small : (m : ℕ) → get_or sums m 0 ≤ k * (5 * 4294967295)
-  pub totals-are : totals ≡ sets totals₀ 0 (ledger (λ j. (outcomeOn s (freshRun s) (dayIn ns) j).totals) k)
-  pub totals-sized : length totals ≡ length ns
+  pub totals_are : totals ≡ sets totals₀ 0 (ledger (λ j. (outcome_on s (fresh_run s) (day_in ns) j).totals) k)
+  pub totals_sized : length totals ≡ length ns
 
-ledger-next : (t : ℕ → Totals) (l : List ℕ) (k : ℕ) → sets (sets l 0 (ledger t k)) (7 * k) (seven (t k)) ≡ sets l 0 (ledger t (k + 1))
+ledger_next : (t : ℕ → Totals) (l : List ℕ) (k : ℕ) → sets (sets l 0 (ledger t k)) (7 * k) (seven (t k)) ≡ sets l 0 (ledger t (k + 1))
 unfolding ledger
-ledger-next t l k =
+ledger_next t l k =
     rw (add-one k)
-    (sym (sets-append (ledger t k) (seven (t k)) l 0 ∙ ap (λ (a : ℕ). sets (sets l 0 (ledger t k)) a (seven (t k))) (zero-add _ ∙ ledger-length t k)))
+    (sym (sets_append (ledger t k) (seven (t k)) l 0 ∙ ap (λ (a : ℕ). sets (sets l 0 (ledger t k)) a (seven (t k))) (zero-add _ ∙ ledger_length t k)))
 
-no-sum : (n m : ℕ) → get_or (made {A = ℕ} n (λ i. 0)) m 0 ≡ 0
-no-sum n m =
+no_sum : (n m : ℕ) → get_or (made {A = ℕ} n (λ i. 0)) m 0 ≡ 0
+no_sum n m =
     below_or_not m n (λ h. made_at {A = ℕ} n (λ i. 0) 0 m h)
-    (λ h. get_or-eq_default (made {A = ℕ} n (λ i. 0)) 0 {n = m} (rw (made-length {A = ℕ} n (λ i. 0)) h))
+    (λ h. get_or-eq_default (made {A = ℕ} n (λ i. 0)) 0 {n = m} (rw (made_length {A = ℕ} n (λ i. 0)) h))
 
 -- a fresh state has one entry a cell
-pub fresh-soils : (s : Setup) (ns : List ℤ) (st : State) (sums totals : List ℕ) → Begun s ns st sums totals → length st.soil ≡ cells s
-unfolding freshState
-fresh-soils s ns st sums totals b = rw b.fresh (made-length (cells s) _)
+pub fresh_soils : (s : Setup) (ns : List ℤ) (st : State) (sums totals : List ℕ) → Begun s ns st sums totals → length st.soil ≡ cells s
+unfolding fresh_state
+fresh_soils s ns st sums totals b = rw b.fresh (made_length (cells s) _)
 
-pub fresh-snows : (s : Setup) (ns : List ℤ) (st : State) (sums totals : List ℕ) → Begun s ns st sums totals → length st.snow ≡ cells s
-unfolding freshState
-fresh-snows s ns st sums totals b = rw b.fresh (made-length (cells s) _)
+pub fresh_snows : (s : Setup) (ns : List ℤ) (st : State) (sums totals : List ℕ) → Begun s ns st sums totals → length st.snow ≡ cells s
+unfolding fresh_state
+fresh_snows s ns st sums totals b = rw b.fresh (made_length (cells s) _)
 
 -- before the first day
-pub underway-first : (s : Setup) (ns : List ℤ) (st : State) (sums totals : List ℕ) → Begun s ns st sums totals → length s.available ≡ cells s → cells s ≤ 4096
+pub underway_first : (s : Setup) (ns : List ℤ) (st : State) (sums totals : List ℕ) → Begun s ns st sums totals → length s.available ≡ cells s → cells s ≤ 4096
     → (none : List ℕ) → none ≡ made {A = ℕ} (length sums) (λ i. 0)
     → let l = replicate {A = ℕ} 4096 0 in Underway s ns totals st none totals l l l l l 0
 unfolding after start made days summed sum ledger
-underway-first s ns st sums totals b wet few none is =
+underway_first s ns st sums totals b wet few none is =
     record {
       within = omega arith;
       before = λ j h. absurd (omega arith);
-      state-is = b.fresh;
-      soils = fresh-soils s ns st sums totals b;
-      snows = fresh-snows s ns st sums totals b;
+      state_is = b.fresh;
+      soils = fresh_soils s ns st sums totals b;
+      snows = fresh_snows s ns st sums totals b;
       room = room (length s.available) 4096 (rw wet few);
-      results-are = rw wet (no-results (cells s) 4096 few);
-      sums-are =
+      results_are = rw wet (no_results_lem (cells s) 4096 few);
+      sums_are =
           record {
-            sized = rw is (made-length {A = ℕ} (length sums) (λ i. 0)) ∙ b.sized;
-            intercepted = λ i h. rw is (no-sum (length sums) i);
-            outflow = λ i h. rw is (no-sum (length sums) (cells s + i));
-            evapotranspired = λ i h. rw is (no-sum (length sums) (2 * cells s + i));
-            recharged = λ i h. rw is (no-sum (length sums) (3 * cells s + i));
-            rejected = λ i h. rw is (no-sum (length sums) (4 * cells s + i));
+            sized = rw is (made_length {A = ℕ} (length sums) (λ i. 0)) ∙ b.sized;
+            intercepted = λ i h. rw is (no_sum (length sums) i);
+            outflow = λ i h. rw is (no_sum (length sums) (cells s + i));
+            evapotranspired = λ i h. rw is (no_sum (length sums) (2 * cells s + i));
+            recharged = λ i h. rw is (no_sum (length sums) (3 * cells s + i));
+            rejected = λ i h. rw is (no_sum (length sums) (4 * cells s + i));
           };
-      small = λ m. rw is (omega (arith, no-sum (length sums) m));
-      totals-are = refl;
-      totals-sized = b.room;
+      small = λ m. rw is (omega (arith, no_sum (length sums) m));
+      totals_are = refl;
+      totals_sized = b.room;
     }
 
 module _ (s : Setup) (ns : List ℤ) (totals₀ : List ℕ) (st : State) (sums totals i o e r j : List ℕ) (k : ℕ)
     (u : Underway s ns totals₀ st sums totals i o e r j k) (wet : length s.available ≡ cells s) where
   abbrev on : ℕ → Outcome
-  on = outcomeOn s (freshRun s) (dayIn ns)
+  on = outcome_on s (fresh_run s) (day_in ns)
 
   -- one entry a cell in what the day is lent
-  pub each : oneEach (cells s) (lentLengths st (parts (length s.available) i o e r j)) ≡ true
-  unfolding oneEach
+  pub each : one_each (cells s) (lent_lengths st (parts (length s.available) i o e r j)) ≡ true
+  unfolding one_each
   each =
       and_both _ _ (eq-eqb _ _ u.soils) (and_both _ _ (eq-eqb _ _ u.snows)
       (and_both _ _ (eq-eqb _ _ (length-take-le _ _ u.room.intercepted ∙ wet)) (and_both _ _ (eq-eqb _ _ (length-take-le _ _ u.room.outflow ∙ wet))
@@ -113,9 +113,9 @@ module _ (s : Setup) (ns : List ℤ) (totals₀ : List ℕ) (st : State) (sums t
       (and_both _ _ (eq-eqb _ _ (length-take-le _ _ u.room.rejected ∙ wet)) refl))))))
 
   -- the day's outcome is the run's
-  pub outcome-is : (d : Day) → d ≡ dayIn ns k → (out : Outcome) → out ≡ dayOf s st (parts (length s.available) i o e r j) d → out ≡ on k
-  unfolding outcomeOn
-  outcome-is d is out e = e ∙ (λ t. dayOf s (u.state-is t) (u.results-are t) (is t))
+  pub outcome_is : (d : Day) → d ≡ day_in ns k → (out : Outcome) → out ≡ day_of s st (parts (length s.available) i o e r j) d → out ≡ on k
+  unfolding outcome_on
+  outcome_is d is out e = e ∙ (λ t. day_of s (u.state_is t) (u.results_are t) (is t))
 
   -- room for one day more
   pub addable : (rs : Results) → cells s ≤ 4096 → let n = length s.available in length rs.intercepted ≡ n → length rs.outflow ≡ n
@@ -123,8 +123,8 @@ module _ (s : Setup) (ns : List ℤ) (totals₀ : List ℕ) (st : State) (sums t
   addable rs few a b c d f =
       record {
         few = rw wet few;
-        sized = rw wet u.sums-are.sized;
-        room = λ m. omega (arith, u.small m, few-days s (freshRun s) (dayIn ns) k u.before);
+        sized = rw wet u.sums_are.sized;
+        room = λ m. omega (arith, u.small m, few_days s (fresh_run s) (day_in ns) k u.before);
         intercepted = a;
         outflow = b;
         evapotranspired = c;
@@ -133,113 +133,113 @@ module _ (s : Setup) (ns : List ℤ) (totals₀ : List ℕ) (st : State) (sums t
       }
 
   -- after the last day
-  pub all-ended : length ns / 7 ≤ k → (soil snow : List ℕ) (past : Past) → stateAs soil snow past ≡ st
+  pub all_ended : length ns / 7 ≤ k → (soil snow : List ℕ) (past : Past) → state_as soil snow past ≡ st
       → Went s ns totals₀ (record { verdict = Accepted; days = length ns / 7; past = past }) soil snow sums totals
-  unfolding verdictAt
-  all-ended last soil snow past kept =
+  unfolding verdict_at
+  all_ended last soil snow past kept =
       let all : length ns / 7 ≡ k = omega (arith, u.within) in
       record {
         within = le_refl (length ns / 7);
         before = rw all u.before;
-        verdict-is = sym (cond-false (ltb (length ns / 7) (length ns / 7)) (le-ltb (length ns / 7) (length ns / 7) (le_refl (length ns / 7))) _ _);
+        verdict_is = sym (cond_false (ltb (length ns / 7) (length ns / 7)) (le-ltb (length ns / 7) (length ns / 7) (le_refl (length ns / 7))) _ _);
         whole = λ passed. refl;
-        state-is = kept ∙ rw all u.state-is;
-        sums-are = rw all u.sums-are;
-        totals-are = rw all u.totals-are;
+        state_is = kept ∙ rw all u.state_is;
+        sums_are = rw all u.sums_are;
+        totals_are = rw all u.totals_are;
       }
 
   module _ (out : Outcome) (is : out ≡ on k) where
-    verdict-same : out.verdict ≡ (on k).verdict
-    verdict-same = ap (λ (x : Outcome). x.verdict) is
+    verdict_same : out.verdict ≡ (on k).verdict
+    verdict_same = ap (λ (x : Outcome). x.verdict) is
 
     -- a refused day leaves the state as it was
-    pub refused-state : (why : Refusal) → out.verdict ≡ refused why → out.state ≡ (after s (freshRun s) (dayIn ns) k).state
-    unfolding outcomeOn
-    refused-state why v =
+    pub refused_state : (why : Refusal) → out.verdict ≡ refused why → out.state ≡ (after s (fresh_run s) (day_in ns) k).state
+    unfolding outcome_on
+    refused_state why v =
         ap (λ (x : Outcome). x.state)
-        (is ∙ refused-is s _ _ _ why (sym (verdict-is s _ _ _) ∙ sym verdict-same ∙ v))
+        (is ∙ refused_is s _ _ _ why (sym (verdict_is s _ _ _) ∙ sym verdict_same ∙ v))
 
-    refused-by : (v : code.Verdict) → out.verdict ≡ verdictAs v → (v ≡ Accepted → ⊥) → out.state ≡ (after s (freshRun s) (dayIn ns) k).state
-    refused-by Accepted e not = absurd (not refl)
-    refused-by (Refused why) e not = refused-state (refusalAs why) e
+    refused_by : (v : code.Verdict) → out.verdict ≡ verdict_as v → (v ≡ Accepted → ⊥) → out.state ≡ (after s (fresh_run s) (day_in ns) k).state
+    refused_by Accepted e not = absurd (not refl)
+    refused_by (Refused why) e not = refused_state (refusal_as why) e
 
     -- and ends the period
-    pub refused-ends : (v : code.Verdict) → out.verdict ≡ verdictAs v → (v ≡ Accepted → ⊥) → k < length ns / 7
-        → (soil snow : List ℕ) (past : Past) → stateAs soil snow past ≡ out.state
+    pub refused_ends : (v : code.Verdict) → out.verdict ≡ verdict_as v → (v ≡ Accepted → ⊥) → k < length ns / 7
+        → (soil snow : List ℕ) (past : Past) → state_as soil snow past ≡ out.state
         → Went s ns totals₀ (record { verdict = v; days = k; past = past }) soil snow sums totals
-    unfolding verdictAt
-    refused-ends v e not more soil snow past kept =
+    unfolding verdict_at
+    refused_ends v e not more soil snow past kept =
         record {
           within = u.within;
           before = u.before;
-          verdict-is = sym e ∙ verdict-same ∙ sym (cond-true (ltb k (length ns / 7)) (lt-ltb k _ more) _ _);
+          verdict_is = sym e ∙ verdict_same ∙ sym (cond_true (ltb k (length ns / 7)) (lt-ltb k _ more) _ _);
           whole = λ passed. absurd (not passed);
-          state-is = kept ∙ refused-by v e not;
-          sums-are = u.sums-are;
-          totals-are = u.totals-are;
+          state_is = kept ∙ refused_by v e not;
+          sums_are = u.sums_are;
+          totals_are = u.totals_are;
         }
 
     -- an accepted one is one more
     module _ (ok : out.verdict ≡ accepted) (more : k < length ns / 7) where
-      before-next : AllAccepted s (freshRun s) (dayIn ns) (k + 1)
-      before-next a h = below_or_not a k (λ less. u.before a less) (λ not. let same : a ≡ k = omega arith in rw same (sym verdict-same ∙ ok))
+      before_next : AllAccepted s (fresh_run s) (day_in ns) (k + 1)
+      before_next a h = below_or_not a k (λ less. u.before a less) (λ not. let same : a ≡ k = omega arith in rw same (sym verdict_same ∙ ok))
 
-      state-after : out.state ≡ (after s (freshRun s) (dayIn ns) (k + 1)).state
-      state-after = ap (λ (x : Outcome). x.state) is ∙ sym (rw (add-one k) (state-next s (freshRun s) (dayIn ns) k))
+      state_after_lem : out.state ≡ (after s (fresh_run s) (day_in ns) (k + 1)).state
+      state_after_lem = ap (λ (x : Outcome). x.state) is ∙ sym (rw (add-one k) (state_next s (fresh_run s) (day_in ns) k))
 
-      results-after : out.results ≡ (after s (freshRun s) (dayIn ns) (k + 1)).results
-      results-after = ap (λ (x : Outcome). x.results) is ∙ sym (rw (add-one k) (results_next s (freshRun s) (dayIn ns) k))
+      results_after : out.results ≡ (after s (fresh_run s) (day_in ns) (k + 1)).results
+      results_after = ap (λ (x : Outcome). x.results) is ∙ sym (rw (add-one k) (results_next s (fresh_run s) (day_in ns) k))
 
       -- a sum with the day's figure
-      one_more : (figure : Results → List ℕ) (m x y : ℕ) → y ≡ summed s (freshRun s) (dayIn ns) figure k m → x ≡ y + get_or (figure out.results) m 0
-          → x ≡ summed s (freshRun s) (dayIn ns) figure (k + 1) m
+      one_more_lem : (figure : Results → List ℕ) (m x y : ℕ) → y ≡ summed s (fresh_run s) (day_in ns) figure k m → x ≡ y + get_or (figure out.results) m 0
+          → x ≡ summed s (fresh_run s) (day_in ns) figure (k + 1) m
       unfolding summed sum
-      one_more figure m x y so gained =
+      one_more_lem figure m x y so gained =
           gained ∙ rw (add-one k) (λ t. so t + get_or (figure ((ap (λ (z : Outcome). z.results) is) t)) m 0)
 
-      pub underway-next :
+      pub underway_next :
           (rs : Results) → rs ≡ out.results → (st' : State) → st' ≡ out.state → length st'.soil ≡ cells s → length st'.snow ≡ cells s
           → (sums' : List ℕ) → DayAdded (length s.available) rs sums sums'
           → (totals' : List ℕ) (t : Totals) → t ≡ out.totals → totals' ≡ cond (ltb k (length totals / 7)) (sets totals (7 * k) (seven t)) totals
           → (i' o' e' r' j' : List ℕ) → Room (length s.available) i' o' e' r' j' → parts (length s.available) i' o' e' r' j' ≡ rs
           → Underway s ns totals₀ st' sums' totals' i' o' e' r' j' (k + 1)
-      underway-next rs results st' state soils snows sums' gained totals' t told wrote i' o' e' r' j' roomed held =
+      underway_next rs results st' state soils snows sums' gained totals' t told wrote i' o' e' r' j' roomed held =
           let added : DayAdded (cells s) rs sums sums' = rw wet at gained in
-          let sum-on : (figure : Results → List ℕ) (m x y : ℕ) → y ≡ summed s (freshRun s) (dayIn ns) figure k m → x ≡ y + get_or (figure rs) m 0
-          → x ≡ summed s (freshRun s) (dayIn ns) figure (k + 1) m
-          = λ figure m x y so gained. one_more figure m x y so (gained ∙ ap (λ (z : Results). y + get_or (figure z) m 0) results) in
+          let sum_on : (figure : Results → List ℕ) (m x y : ℕ) → y ≡ summed s (fresh_run s) (day_in ns) figure k m → x ≡ y + get_or (figure rs) m 0
+          → x ≡ summed s (fresh_run s) (day_in ns) figure (k + 1) m
+          = λ figure m x y so gained. one_more_lem figure m x y so (gained ∙ ap (λ (z : Results). y + get_or (figure z) m 0) results) in
           record {
             within = omega arith;
-            before = before-next;
-            state-is = state ∙ state-after;
+            before = before_next;
+            state_is = state ∙ state_after_lem;
             soils = soils;
             snows = snows;
             room = roomed;
-            results-are = held ∙ results ∙ results-after;
-            sums-are =
+            results_are = held ∙ results ∙ results_after;
+            sums_are =
                 record {
-                  sized = added.kept ∙ u.sums-are.sized;
-                  intercepted = λ m h. sum-on (λ z. z.intercepted) m _ _ (u.sums-are.intercepted m h) (added.intercepted m h);
-                  outflow = λ m h. sum-on (λ z. z.outflow) m _ _ (u.sums-are.outflow m h) (added.outflow m h);
-                  evapotranspired = λ m h. sum-on (λ z. z.evapotranspired) m _ _ (u.sums-are.evapotranspired m h) (added.evapotranspired m h);
-                  recharged = λ m h. sum-on (λ z. z.recharged) m _ _ (u.sums-are.recharged m h) (added.recharged m h);
-                  rejected = λ m h. sum-on (λ z. z.rejected) m _ _ (u.sums-are.rejected m h) (added.rejected m h);
+                  sized = added.kept ∙ u.sums_are.sized;
+                  intercepted = λ m h. sum_on (λ z. z.intercepted) m _ _ (u.sums_are.intercepted m h) (added.intercepted m h);
+                  outflow = λ m h. sum_on (λ z. z.outflow) m _ _ (u.sums_are.outflow m h) (added.outflow m h);
+                  evapotranspired = λ m h. sum_on (λ z. z.evapotranspired) m _ _ (u.sums_are.evapotranspired m h) (added.evapotranspired m h);
+                  recharged = λ m h. sum_on (λ z. z.recharged) m _ _ (u.sums_are.recharged m h) (added.recharged m h);
+                  rejected = λ m h. sum_on (λ z. z.rejected) m _ _ (u.sums_are.rejected m h) (added.rejected m h);
                 };
             small = λ m. omega (arith, added.most m, u.small m);
-            totals-are = entered;
-            totals-sized = rw wrote (sized (ltb k (length totals / 7)));
+            totals_are = entered;
+            totals_sized = rw wrote (sized (ltb k (length totals / 7)));
           }
         where
           room_for : ltb k (length totals / 7) ≡ true
-          room_for = lt-ltb k _ (rw u.totals-sized more)
+          room_for = lt-ltb k _ (rw u.totals_sized more)
 
           sized : (b : Bool) → length (cond b (sets totals (7 * k) (seven t)) totals) ≡ length ns
-          sized true = length-sets totals (7 * k) (seven t) ∙ u.totals-sized
-          sized Bool.false = u.totals-sized
+          sized true = length-sets totals (7 * k) (seven t) ∙ u.totals_sized
+          sized Bool.false = u.totals_sized
 
           entered : totals' ≡ sets totals₀ 0 (ledger (λ a. (on a).totals) (k + 1))
           entered =
               wrote
-              ∙ cond-true (ltb k (length totals / 7)) room_for _ _
-              ∙ (λ q. sets (u.totals-are q) (7 * k) (seven ((told ∙ ap (λ (z : Outcome). z.totals) is) q)))
-              ∙ ledger-next (λ a. (on a).totals) totals₀ k
+              ∙ cond_true (ltb k (length totals / 7)) room_for _ _
+              ∙ (λ q. sets (u.totals_are q) (7 * k) (seven ((told ∙ ap (λ (z : Outcome). z.totals) is) q)))
+              ∙ ledger_next (λ a. (on a).totals) totals₀ k

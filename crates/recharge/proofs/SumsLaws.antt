@@ -50,11 +50,11 @@ pub record Headroom (n more : ℕ) (sums : List ℕ) : Type 0 where
   pub sized : length sums ≡ 5 * n
   pub room : (m : ℕ) → get_or sums m 0 + more * 4294967295 ≤ roomy
 
-pub headroom-first : (n : ℕ) (sums : List ℕ) (r : Results) → Addable n sums r → Headroom n 5 sums
-headroom-first n sums r ok = record { few = ok.few; sized = ok.sized; room = ok.room }
+pub headroom_first : (n : ℕ) (sums : List ℕ) (r : Results) → Addable n sums r → Headroom n 5 sums
+headroom_first n sums r ok = record { few = ok.few; sized = ok.sized; room = ok.room }
 
-pub headroom-next : {n more from i : ℕ} {figures before after : List ℕ} → Headroom n (more + 1) before → Added from i figures before after → Headroom n more after
-headroom-next h a = record { few = h.few; sized = a.kept ∙ h.sized; room = λ m. omega (arith, h.room m, a.most m) }
+pub headroom_next : {n more from i : ℕ} {figures before after : List ℕ} → Headroom n (more + 1) before → Added from i figures before after → Headroom n more after
+headroom_next h a = record { few = h.few; sized = a.kept ∙ h.sized; room = λ m. omega (arith, h.room m, a.most m) }
 
 -- what adding a part asks for
 pub addable : {n more part : ℕ} {sums : List ℕ} (figures : List ℕ) → Headroom n more sums → part ≤ 4 → length figures ≡ n
@@ -76,8 +76,8 @@ module _ (n : ℕ) (r : Results) (l₀ l₁ l₂ l₃ l₄ l₅ : List ℕ) (ok 
       → get_or after m 0 ≡ get_or before m 0
   past {from} a m sized h = let place : m ≡ from + (m - from) = omega arith in rw place (a.ahead (m - from) (rw sized (omega arith)))
 
-  pub day-added : DayAdded n r l₀ l₅
-  day-added =
+  pub day_added : DayAdded n r l₀ l₅
+  day_added =
       record {
         kept = fifth.kept ∙ fourth.kept ∙ third.kept ∙ second.kept ∙ first.kept;
         intercepted =

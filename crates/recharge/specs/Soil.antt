@@ -2,6 +2,6 @@
 use Rattle.paper.specs.Soil as paper
 use Rattle.recharge.specs.declared.soil.SoilDay.{SoilDay}
 
-abbrev pub soilDayAs : SoilDay → paper.SoilDay
-soilDayAs d =
+abbrev pub soil_day_as : SoilDay → paper.SoilDay
+soil_day_as d =
     record { evapotranspired = d.evapotranspired.0; recharged = d.recharged.0; rejected = d.rejected.0; soil = d.soil.0 }

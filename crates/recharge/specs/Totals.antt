@@ -5,8 +5,8 @@ use Rattle.paper.specs.CellDay.{Figures}
 use Rattle.paper.specs.Day as paper
 
 -- totals with one cell more, of whose rejected recharge so much has left the balance there
-unfoldable pub withCell : paper.Totals → ℕ → Figures → ℕ → ℕ → paper.Totals
-withCell t gross r left gone =
+unfoldable pub with_cell : paper.Totals → ℕ → Figures → ℕ → ℕ → paper.Totals
+with_cell t gross r left gone =
     record {
       gross = t.gross + gross;
       intercepted = t.intercepted + r.intercepted;
@@ -18,8 +18,8 @@ withCell t gross r left gone =
     }
 
 -- sums over n cells
-unfoldable pub totalsBy : ℕ → ℕ → (ℕ → Figures) → (ℕ → Bool) → (ℕ → Bool) → paper.Totals
-totalsBy n gross figure closed? gone? =
+unfoldable pub totals_by : ℕ → ℕ → (ℕ → Figures) → (ℕ → Bool) → (ℕ → Bool) → paper.Totals
+totals_by n gross figure closed? gone? =
     record {
       gross = sum n (λ i. gross);
       intercepted = sum n (λ i. (figure i).intercepted);

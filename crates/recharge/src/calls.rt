@@ -1,10 +1,10 @@
 // The office's daily call.
 ghost use Rattle.std.specs.Prelude.{◌≡◌};
-ghost use Rattle.paper.specs.Day.{dayOf};
-ghost use Rattle.records.specs.Grids.{setupAs};
-ghost use Rattle.records.specs.Past.{stateAs};
-ghost use Rattle.records.specs.Days.{dayAs};
-ghost use Rattle.records.specs.Answers.{resultsAs, outcomeAs};
+ghost use Rattle.paper.specs.Day.{day_of};
+ghost use Rattle.records.specs.Grids.{setup_as};
+ghost use Rattle.records.specs.Past.{state_as};
+ghost use Rattle.records.specs.Days.{day_as};
+ghost use Rattle.records.specs.Answers.{results_as, outcome_as};
 
 use crate::surveyed::surveyed_day;
 use admission::{Lengths, lent_verdict};
@@ -31,11 +31,11 @@ pub fn day(
     past: Past,
     day: DayRecord,
 ) -> Answer
-    ensures { outcomeAs result soil.new snow.new
-        (resultsAs intercepted.new outflow.new evapotranspired.new recharged.new rejected.new)
-        ≡ dayOf (setupAs grid climate covers.now direction.now cover.now group.now available.now)
-        (stateAs soil.old snow.old past)
-        (resultsAs intercepted.old outflow.old evapotranspired.old recharged.old rejected.old) (dayAs day) }
+    ensures { outcome_as result soil.new snow.new
+        (results_as intercepted.new outflow.new evapotranspired.new recharged.new rejected.new)
+        ≡ day_of (setup_as grid climate covers.now direction.now cover.now group.now available.now)
+        (state_as soil.old snow.old past)
+        (results_as intercepted.old outflow.old evapotranspired.old recharged.old rejected.old) (day_as day) }
 {
     let lengths = Lengths {
         intercepted: intercepted.len(),

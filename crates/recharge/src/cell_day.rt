@@ -1,11 +1,11 @@
 // Rules 1 to 8 on one cell, once all that flows to it has arrived. Open water needs a case of its own in its runoff alone: its soil holds nothing
 // and no snow lies on it, so that every figure but what flows out is 0.
 ghost use Rattle.std.specs.Prelude.{◌≡◌, ◌≤◌, ◌<◌};
-ghost use Rattle.paper.specs.Limits.{mostCurveNumber};
-ghost use Rattle.weather.specs.Today.{todayAs};
-ghost use Rattle.recharge.specs.Depths.{waterLimit};
-ghost use Rattle.covers.specs.Grounds.{plotAs};
-ghost use Rattle.recharge.specs.CellDay.{figuresAs, runoffBy, figuresBy, CellReady};
+ghost use Rattle.paper.specs.Limits.{most_curve_number};
+ghost use Rattle.weather.specs.Today.{today_as};
+ghost use Rattle.recharge.specs.Depths.{water_limit};
+ghost use Rattle.covers.specs.Grounds.{plot_as};
+ghost use Rattle.recharge.specs.CellDay.{figures_as, runoff_by, figures_by, CellReady};
 
 use crate::runoff::runoff;
 use crate::soil::soil_day;
@@ -16,7 +16,7 @@ use retention::KNOTS;
 use weather::{Today, melt};
 
 // Depths of 32 bits, as the lent slices hold them.
-#[derive(Drop)]
+#[derive(Clone, Copy)]
 pub(crate) struct Figures {
     pub(crate) intercepted: u32,
     pub(crate) outflow: u32,
@@ -29,8 +29,8 @@ pub(crate) struct Figures {
 
 // What runs off a cell: all of its water on open water, and nothing in a closed depression.
 fn runs_off(plot: Plot, way: Way, water: Depth) -> Depth
-    requires { ((plotAs plot).curve ≤ mostCurveNumber) × (water.0 < waterLimit) }
-    ensures { result.0 ≡ runoffBy (plotAs plot) way.0 water.0 }
+    requires { ((plot_as plot).curve ≤ most_curve_number) × (water.0 < water_limit) }
+    ensures { result.0 ≡ runoff_by (plot_as plot) way.0 water.0 }
 {
     if way.0 == Way::OPEN_WATER.0 {
         return water;
@@ -50,8 +50,8 @@ pub(crate) fn cell_day(
     snow: Depth,
     arrived: Depth,
 ) -> Figures
-    requires { CellReady (todayAs today) (plotAs plot) soil.0 snow.0 arrived.0 f.now }
-    ensures { figuresAs result ≡ figuresBy (todayAs today) (plotAs plot) way.0 soil.0 snow.0 arrived.0 }
+    requires { CellReady (today_as today) (plot_as plot) soil.0 snow.0 arrived.0 f.now }
+    ensures { figures_as result ≡ figures_by (today_as today) (plot_as plot) way.0 soil.0 snow.0 arrived.0 }
 {
     let store = Depth(snow.0 + plot.snowfall.0);
     let melted = melt(store, today.meltable);

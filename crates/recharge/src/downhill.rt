@@ -1,9 +1,9 @@
 // An accepted day over all cells, in one pass downhill: the cell whose turn it is takes up what has arrived, its figures are written and added to
 // the totals, and what flows out of it, rejected recharge included, is handed on before the next cell's turn comes.
 ghost use Rattle.std.specs.Prelude.{◌≡◌};
-ghost use Rattle.weather.specs.Today.{todayAs};
-ghost use Rattle.recharge.specs.CellDay.{figuresAs};
-ghost use Rattle.recharge.specs.Downhill.{slicesOf, LentAt, dayAt, Ready, Ran};
+ghost use Rattle.weather.specs.Today.{today_as};
+ghost use Rattle.recharge.specs.CellDay.{figures_as};
+ghost use Rattle.recharge.specs.Downhill.{slices_of, LentAt, day_at, Ready, Ran};
 
 use crate::cell_day::{Figures, cell_day};
 use crate::totals::add_cell;
@@ -26,8 +26,8 @@ fn day_at(
     way: Way,
     cell: usize,
 ) -> Figures
-    requires { LentAt (todayAs today) f.now plots.now slots.now available.now soil.now snow.now arrived.now cell }
-    ensures { figuresAs result ≡ dayAt (todayAs today) plots.now slots.now available.now soil.now snow.now
+    requires { LentAt (today_as today) f.now plots.now slots.now available.now soil.now snow.now arrived.now cell }
+    ensures { figures_as result ≡ day_at (today_as today) plots.now slots.now available.now soil.now snow.now
         arrived.now way.0 cell }
 {
     let plot = plot_at(plots, slots[cell], available[cell]);
@@ -58,10 +58,10 @@ pub(crate) fn downhill(
     recharged: &mut [u32],
     rejected: &mut [u32],
 ) -> Totals
-    requires { Ready (todayAs today) plots.now slots.now ways.now order.now available.now
-        (slicesOf soil.old snow.old intercepted.old outflow.old evapotranspired.old recharged.old rejected.old) }
-    ensures { Ran (todayAs today) plots.now slots.now ways.now available.now soil.old snow.old result
-        (slicesOf soil.new snow.new intercepted.new outflow.new evapotranspired.new
+    requires { Ready (today_as today) plots.now slots.now ways.now order.now available.now
+        (slices_of soil.old snow.old intercepted.old outflow.old evapotranspired.old recharged.old rejected.old) }
+    ensures { Ran (today_as today) plots.now slots.now ways.now available.now soil.old snow.old result
+        (slices_of soil.new snow.new intercepted.new outflow.new evapotranspired.new
         recharged.new rejected.new) }
 {
     let n = available.len();

@@ -1,4 +1,6 @@
 // The library: the office's three calls, and its rules as code. Each rule is one function, and its contract is one definition of the crate `paper`.
+#![tactic(auto)]
+
 mod calls;
 mod cell_day;
 mod downhill;

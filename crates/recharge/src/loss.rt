@@ -1,8 +1,8 @@
 // Rule 8: what a shortfall takes from the soil.
 ghost use Rattle.std.specs.Prelude.{◌≡◌, ◌≤◌, ◌<◌};
-ghost use Rattle.paper.specs.Limits.{mostPotential};
+ghost use Rattle.paper.specs.Limits.{most_potential};
 ghost use Rattle.paper.specs.Retention.{L, loss as rule8};
-ghost use Rattle.covers.specs.Slots.{mostCapacity};
+ghost use Rattle.covers.specs.Slots.{most_capacity};
 ghost use Rattle.retention.specs.Retention.{table};
 
 use records::{Depth, index_of, wide};
@@ -10,7 +10,7 @@ use retention::{KNOTS, LAST_KNOT, WHOLE, retained};
 
 // L of the paper: the share of the soil's water that is lost, in parts of 1,048,576 × capacity. Nothing is rounded in it.
 fn share_lost(f: &[u32; KNOTS], capacity: Depth, shortfall: Depth) -> u64
-    requires { (0 < capacity.0) × (capacity.0 ≤ mostCapacity) × (shortfall.0 ≤ mostPotential) × (f.now ≡ table) }
+    requires { (0 < capacity.0) × (capacity.0 ≤ most_capacity) × (shortfall.0 ≤ most_potential) × (f.now ≡ table) }
     ensures { result ≡ L capacity.0 shortfall.0 }
 {
     let most = capacity.0;
@@ -30,7 +30,7 @@ fn share_lost(f: &[u32; KNOTS], capacity: Depth, shortfall: Depth) -> u64
 }
 
 pub(crate) fn loss(f: &[u32; KNOTS], capacity: Depth, soil: Depth, shortfall: Depth) -> Depth
-    requires { (capacity.0 ≤ mostCapacity) × (soil.0 ≤ capacity.0) × (shortfall.0 ≤ mostPotential) × (f.now ≡ table) }
+    requires { (capacity.0 ≤ most_capacity) × (soil.0 ≤ capacity.0) × (shortfall.0 ≤ most_potential) × (f.now ≡ table) }
     ensures { result.0 ≡ rule8 capacity.0 soil.0 shortfall.0 }
 {
     let most = capacity.0;

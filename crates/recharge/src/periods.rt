@@ -1,11 +1,11 @@
 // A period: a list of days in one call, from the fresh state, with each cell's five figures added up over them. The setup is surveyed once.
 ghost use Rattle.std.specs.Prelude.{◌≡◌, ◌+◌, ◌≤◌, length};
 ghost use Rattle.theory.specs.Lists.{made};
-ghost use Rattle.paper.specs.State.{noPast};
-ghost use Rattle.records.specs.Answers.{resultsAs};
-ghost use Rattle.records.specs.Grids.{setupAs};
-ghost use Rattle.records.specs.Past.{pastAs, stateAs};
-ghost use Rattle.recharge.specs.Period.{SumsRoom, Added, Addable, DayAdded, listsFit, Begun, Went, Periods};
+ghost use Rattle.paper.specs.State.{no_past};
+ghost use Rattle.records.specs.Answers.{results_as};
+ghost use Rattle.records.specs.Grids.{setup_as};
+ghost use Rattle.records.specs.Past.{past_as, state_as};
+ghost use Rattle.recharge.specs.Period.{SumsRoom, Added, Addable, DayAdded, lists_fit, Begun, Went, Periods};
 
 use crate::surveyed::surveyed_day;
 use daybook::{DAY_NUMBERS, day_at, put_totals};
@@ -14,7 +14,7 @@ use stores::fresh;
 use survey::survey;
 
 // How many days were accepted: all of them, or those before the one that is refused; and what the next day would remember.
-#[derive(Drop)]
+#[derive(Clone, Copy)]
 pub struct Ended {
     pub verdict: Verdict,
     pub days: usize,
@@ -23,7 +23,7 @@ pub struct Ended {
 
 // Before any day.
 fn unbegun(verdict: Verdict) -> Ended
-    ensures { (result.verdict ≡ verdict) × (result.days ≡ 0) × (pastAs result.past ≡ noPast) }
+    ensures { (result.verdict ≡ verdict) × (result.days ≡ 0) × (past_as result.past ≡ no_past) }
 {
     let past = Past::none();
     Ended {
@@ -68,8 +68,8 @@ fn add_day(
     recharged: &[u32],
     rejected: &[u32],
 )
-    requires { Addable n sums.old (resultsAs intercepted.now outflow.now evapotranspired.now recharged.now rejected.now) }
-    ensures { DayAdded n (resultsAs intercepted.now outflow.now evapotranspired.now recharged.now rejected.now)
+    requires { Addable n sums.old (results_as intercepted.now outflow.now evapotranspired.now recharged.now rejected.now) }
+    ensures { DayAdded n (results_as intercepted.now outflow.now evapotranspired.now recharged.now rejected.now)
         sums.old sums.new }
 {
     add_figures(sums, 0, intercepted);
@@ -96,9 +96,9 @@ fn run(
     totals: &mut [u64],
     past: Past,
 ) -> Ended
-    requires { Begun (setupAs grid climate covers.now direction.now cover.now group.now available.now) days.now
-        (stateAs soil.old snow.old past) sums.old totals.old }
-    ensures { Went (setupAs grid climate covers.now direction.now cover.now group.now available.now)
+    requires { Begun (setup_as grid climate covers.now direction.now cover.now group.now available.now) days.now
+        (state_as soil.old snow.old past) sums.old totals.old }
+    ensures { Went (setup_as grid climate covers.now direction.now cover.now group.now available.now)
         days.now totals.old result soil.new snow.new sums.new totals.new }
 {
     let mut slots = [0u8; MOST_CELLS];
@@ -169,7 +169,7 @@ fn run(
 // Test 2 of the lists that come with the days: whole days, five sums a cell, and as many totals as numbers of days.
 fn lists_fit(n: usize, days: usize, sums: usize, totals: usize) -> bool
     requires { n ≤ 4096 }
-    ensures { result ≡ listsFit n days sums totals }
+    ensures { result ≡ lists_fit n days sums totals }
 {
     (days % DAY_NUMBERS == 0) & (sums == CELL_SUMS * n) & (totals == days)
 }
@@ -190,7 +190,7 @@ pub fn period(
     sums: &mut [u64],
     totals: &mut [u64],
 ) -> Ended
-    ensures { Periods (setupAs grid climate covers.now direction.now cover.now group.now available.now)
+    ensures { Periods (setup_as grid climate covers.now direction.now cover.now group.now available.now)
         days.now soil.old snow.old sums.old totals.old result
         soil.new snow.new sums.new totals.new }
 {

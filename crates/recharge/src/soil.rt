@@ -1,17 +1,17 @@
 // Rules 7 and 8: what infiltration and evapotranspiration do to the soil.
 ghost use Rattle.std.specs.Prelude.{◌≡◌, ◌≤◌, ◌<◌};
-ghost use Rattle.paper.specs.Limits.{mostPotential};
-ghost use Rattle.paper.specs.Soil.{wetDay, dryDay, soilDay};
-ghost use Rattle.covers.specs.Slots.{mostCapacity};
-ghost use Rattle.recharge.specs.Depths.{waterLimit};
+ghost use Rattle.paper.specs.Limits.{most_potential};
+ghost use Rattle.paper.specs.Soil.{wet_day, dry_day, soil_day};
+ghost use Rattle.covers.specs.Slots.{most_capacity};
+ghost use Rattle.recharge.specs.Depths.{water_limit};
 ghost use Rattle.retention.specs.Retention.{table};
-ghost use Rattle.recharge.specs.Soil.{soilDayAs};
+ghost use Rattle.recharge.specs.Soil.{soil_day_as};
 
 use crate::loss::loss;
 use records::Depth;
 use retention::KNOTS;
 
-#[derive(Drop)]
+#[derive(Clone, Copy)]
 pub struct SoilDay {
     pub evapotranspired: Depth,
     pub recharged: Depth,
@@ -27,8 +27,8 @@ fn wet_day(
     infiltration: Depth,
     potential: Depth,
 ) -> SoilDay
-    requires { (capacity.0 ≤ mostCapacity) × (soil.0 ≤ capacity.0) × (infiltration.0 < waterLimit) × (potential.0 ≤ infiltration.0) }
-    ensures { soilDayAs result ≡ wetDay capacity.0 largest.0 soil.0 infiltration.0 potential.0 }
+    requires { (capacity.0 ≤ most_capacity) × (soil.0 ≤ capacity.0) × (infiltration.0 < water_limit) × (potential.0 ≤ infiltration.0) }
+    ensures { soil_day_as result ≡ wet_day capacity.0 largest.0 soil.0 infiltration.0 potential.0 }
 {
     let before = soil.0;
     let n = infiltration.0;
@@ -51,8 +51,8 @@ fn dry_day(
     infiltration: Depth,
     potential: Depth,
 ) -> SoilDay
-    requires { (capacity.0 ≤ mostCapacity) × (soil.0 ≤ capacity.0) × (infiltration.0 < potential.0) × (potential.0 ≤ mostPotential) × (f.now ≡ table) }
-    ensures { soilDayAs result ≡ dryDay capacity.0 soil.0 infiltration.0 potential.0 }
+    requires { (capacity.0 ≤ most_capacity) × (soil.0 ≤ capacity.0) × (infiltration.0 < potential.0) × (potential.0 ≤ most_potential) × (f.now ≡ table) }
+    ensures { soil_day_as result ≡ dry_day capacity.0 soil.0 infiltration.0 potential.0 }
 {
     let before = soil.0;
     let n = infiltration.0;
@@ -74,8 +74,8 @@ pub(crate) fn soil_day(
     infiltration: Depth,
     potential: Depth,
 ) -> SoilDay
-    requires { (capacity.0 ≤ mostCapacity) × (soil.0 ≤ capacity.0) × (infiltration.0 < waterLimit) × (potential.0 ≤ mostPotential) × (f.now ≡ table) }
-    ensures { soilDayAs result ≡ soilDay capacity.0 largest.0 soil.0 infiltration.0 potential.0 }
+    requires { (capacity.0 ≤ most_capacity) × (soil.0 ≤ capacity.0) × (infiltration.0 < water_limit) × (potential.0 ≤ most_potential) × (f.now ≡ table) }
+    ensures { soil_day_as result ≡ soil_day capacity.0 largest.0 soil.0 infiltration.0 potential.0 }
 {
     let n = infiltration.0;
     let e = potential.0;

@@ -1,7 +1,7 @@
 // A day of a setup that its survey has passed, by what the survey left: tests 7 to 10, and then the pass downhill.
-ghost use Rattle.records.specs.Past.{stateAs};
-ghost use Rattle.records.specs.Days.{dayAs};
-ghost use Rattle.records.specs.Answers.{resultsAs, outcomeAs};
+ghost use Rattle.records.specs.Past.{state_as};
+ghost use Rattle.records.specs.Days.{day_as};
+ghost use Rattle.records.specs.Answers.{results_as, outcome_as};
 ghost use Rattle.recharge.specs.Surveyed.{SomeReady, Answered};
 
 use crate::downhill::downhill;
@@ -29,13 +29,13 @@ pub(crate) fn surveyed_day(
     past: Past,
     day: DayRecord,
 ) -> Answer
-    requires { SomeReady grid climate covers.now available.now slots.now ways.now order.now (stateAs soil.old snow.old past)
-        (resultsAs intercepted.old outflow.old evapotranspired.old recharged.old rejected.old) }
+    requires { SomeReady grid climate covers.now available.now slots.now ways.now order.now (state_as soil.old snow.old past)
+        (results_as intercepted.old outflow.old evapotranspired.old recharged.old rejected.old) }
     ensures { Answered grid climate covers.now available.now slots.now ways.now order.now
-        (stateAs soil.old snow.old past)
-        (resultsAs intercepted.old outflow.old evapotranspired.old recharged.old rejected.old) (dayAs day)
-        (outcomeAs result soil.new snow.new
-        (resultsAs intercepted.new outflow.new evapotranspired.new recharged.new rejected.new)) }
+        (state_as soil.old snow.old past)
+        (results_as intercepted.old outflow.old evapotranspired.old recharged.old rejected.old) (day_as day)
+        (outcome_as result soil.new snow.new
+        (results_as intercepted.new outflow.new evapotranspired.new recharged.new rejected.new)) }
 {
     let mut plots = [0u32; PLOT_ROOM];
     let today = today_of(climate, past, day);

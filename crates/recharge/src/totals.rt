@@ -1,9 +1,9 @@
 // The totals of a day, added up cell by cell.
 ghost use Rattle.std.specs.Prelude.{◌≡◌, ◌+◌, ◌≤◌};
-ghost use Rattle.paper.specs.Limits.{mostGross};
-ghost use Rattle.records.specs.Answers.{totalsAs};
-ghost use Rattle.recharge.specs.CellDay.{figuresAs};
-ghost use Rattle.recharge.specs.Totals.{withCell, Room, roomy};
+ghost use Rattle.paper.specs.Limits.{most_gross};
+ghost use Rattle.records.specs.Answers.{totals_as};
+ghost use Rattle.recharge.specs.CellDay.{figures_as};
+ghost use Rattle.recharge.specs.Totals.{with_cell, Room, roomy};
 
 use crate::cell_day::Figures;
 use records::{Depth, Totals};
@@ -16,8 +16,8 @@ fn more(total: Depth, figure: u32) -> Depth
 }
 
 pub(crate) fn add_cell(totals: Totals, gross: Depth, day: Figures, left: u32, gone: u32) -> Totals
-    requires { Room (totalsAs totals) × (gross.0 ≤ mostGross) }
-    ensures { totalsAs result ≡ withCell (totalsAs totals) gross.0 (figuresAs day) left gone }
+    requires { Room (totals_as totals) × (gross.0 ≤ most_gross) }
+    ensures { totals_as result ≡ with_cell (totals_as totals) gross.0 (figures_as day) left gone }
 {
     let stored = totals.stored.0 + (day.soil as u64 + day.snow as u64);
     Totals {

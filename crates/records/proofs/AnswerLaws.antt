@@ -4,28 +4,28 @@ use mathlib.Core.List.{List}
 use Prim.Native.Nat.{ℕ}
 use Rattle.paper.specs.State as state
 use Rattle.paper.specs.Day as paper
-use Rattle.records.specs.Past.{lastAs, pastAs}
-use Rattle.records.specs.Verdicts.{verdictIn}
-use Rattle.records.specs.Answers.{freshAs, outcomeAs}
+use Rattle.records.specs.Past.{last_as, past_as}
+use Rattle.records.specs.Verdicts.{verdict_in}
+use Rattle.records.specs.Answers.{fresh_as, outcome_as}
 use Rattle.records.specs.declared.past.Last.{Last}
 use Rattle.records.specs.declared.past.Last.TheVariants.{Never, Serial}
 use Rattle.records.specs.declared.past.Past.{Past}
 use Rattle.records.specs.declared.answers.Totals.{Totals}
 use Rattle.records.specs.declared.answers.Answer.{Answer}
 use Rattle.records.specs.declared.answers.Start.{Start}
-use Rattle.records.proofs.VerdictLaws.{verdict-forth}
+use Rattle.records.proofs.VerdictLaws.{verdict_forth}
 
-lastIn : state.Last → Last
-lastIn state.none = Never
-lastIn (state.serial n) = Serial n
+last_in : state.Last → Last
+last_in state.none = Never
+last_in (state.serial n) = Serial n
 
-last-forth : (l : Last) → lastIn (lastAs l) ≡ l
-unfolding lastIn
-last-forth Never = refl
-last-forth (Serial n) = refl
+last_forth : (l : Last) → last_in (last_as l) ≡ l
+unfolding last_in
+last_forth Never = refl
+last_forth (Serial n) = refl
 
-pastIn : state.Past → Past
-pastIn p =
+past_in : state.Past → Past
+past_in p =
     record {
       memory =
           record {
@@ -35,16 +35,16 @@ pastIn p =
             second = record { 0 = p.memory.second };
             yesterday = record { 0 = p.memory.yesterday };
           };
-      last = lastIn p.last;
+      last = last_in p.last;
       frost = record { 0 = p.frost };
     }
 
-past-forth : (p : Past) → pastIn (pastAs p) ≡ p
-unfolding pastIn
-past-forth p = λ k. record { memory = p.memory; last = last-forth p.last k; frost = p.frost }
+past_forth : (p : Past) → past_in (past_as p) ≡ p
+unfolding past_in
+past_forth p = λ k. record { memory = p.memory; last = last_forth p.last k; frost = p.frost }
 
-totalsIn : paper.Totals → Totals
-totalsIn t =
+totals_in : paper.Totals → Totals
+totals_in t =
     record {
       gross = record { 0 = t.gross };
       intercepted = record { 0 = t.intercepted };
@@ -56,19 +56,19 @@ totalsIn t =
     }
 
 -- a day's answers that say the same outcome of equal slices
-pub answer-only : (a b : Answer) (soil snow : List ℕ) (results : paper.Results) → outcomeAs a soil snow results ≡ outcomeAs b soil snow results → a ≡ b
-unfolding totalsIn
-answer-only a b soil snow results e =
+pub answer_only : (a b : Answer) (soil snow : List ℕ) (results : paper.Results) → outcome_as a soil snow results ≡ outcome_as b soil snow results → a ≡ b
+unfolding totals_in
+answer_only a b soil snow results e =
     λ k. record {
-      verdict = (sym (verdict-forth a.verdict) ∙ ap (λ (o : paper.Outcome). verdictIn o.verdict) e ∙ verdict-forth b.verdict) k;
-      totals = ap (λ (o : paper.Outcome). totalsIn o.totals) e k;
-      past = (sym (past-forth a.past) ∙ ap (λ (o : paper.Outcome). pastIn o.state.past) e ∙ past-forth b.past) k;
+      verdict = (sym (verdict_forth a.verdict) ∙ ap (λ (o : paper.Outcome). verdict_in o.verdict) e ∙ verdict_forth b.verdict) k;
+      totals = ap (λ (o : paper.Outcome). totals_in o.totals) e k;
+      past = (sym (past_forth a.past) ∙ ap (λ (o : paper.Outcome). past_in o.state.past) e ∙ past_forth b.past) k;
     }
 
 -- and of a fresh state
-pub start-only : (a b : Start) (soil snow : List ℕ) → freshAs a soil snow ≡ freshAs b soil snow → a ≡ b
-start-only a b soil snow e =
+pub start_only : (a b : Start) (soil snow : List ℕ) → fresh_as a soil snow ≡ fresh_as b soil snow → a ≡ b
+start_only a b soil snow e =
     λ k. record {
-      verdict = (sym (verdict-forth a.verdict) ∙ ap (λ (f : paper.Fresh). verdictIn f.verdict) e ∙ verdict-forth b.verdict) k;
-      past = (sym (past-forth a.past) ∙ ap (λ (f : paper.Fresh). pastIn f.state.past) e ∙ past-forth b.past) k;
+      verdict = (sym (verdict_forth a.verdict) ∙ ap (λ (f : paper.Fresh). verdict_in f.verdict) e ∙ verdict_forth b.verdict) k;
+      past = (sym (past_forth a.past) ∙ ap (λ (f : paper.Fresh). past_in f.state.past) e ∙ past_forth b.past) k;
     }

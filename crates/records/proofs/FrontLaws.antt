@@ -5,8 +5,8 @@ use Prim.Native.Nat.{ℕ, zero, suc, ◌≤◌}
 use native.Mathlib.Nat.{not-suc-le-zero, le_of_suc-le-suc}
 use lib.ListN.{length, take, drop, replicate, length-replicate}
 use lib.Seq.{length-take-le, length_front, take_at}
-use Rattle.paper.specs.Day.{Results, noResults}
-use Rattle.records.specs.Answers.{resultsAs}
+use Rattle.paper.specs.Day.{Results, no_results}
+use Rattle.records.specs.Answers.{results_as}
 
 -- a part of an array of zeros is zeros, and has its own length
 pub zeros : (n m : ℕ) → n ≤ m → take n (replicate {A = ℕ} m 0) ≡ replicate n 0
@@ -19,7 +19,7 @@ part_length n m h = sym (ap length (zeros n m h) ∙ length-replicate {A = ℕ} 
 
 -- the lent parts of the five arrays of results
 abbrev pub parts : ℕ → List ℕ → List ℕ → List ℕ → List ℕ → List ℕ → Results
-parts n i o e r j = resultsAs (take n i) (take n o) (take n e) (take n r) (take n j)
+parts n i o e r j = results_as (take n i) (take n o) (take n e) (take n r) (take n j)
 
 -- each array has an entry for every cell
 pub record Room (n : ℕ) (i o e r j : List ℕ) : Type 0 where
@@ -30,10 +30,10 @@ pub record Room (n : ℕ) (i o e r j : List ℕ) : Type 0 where
   pub rejected : n ≤ length j
 
 -- before the first day
-pub no-results :
-    (n m : ℕ) → n ≤ m → (let l = replicate {A = ℕ} m 0 in parts n l l l l l ≡ noResults n)
-unfolding noResults
-no-results n m h = ap (λ (l : List ℕ). resultsAs l l l l l) (zeros n m h)
+pub no_results_lem :
+    (n m : ℕ) → n ≤ m → (let l = replicate {A = ℕ} m 0 in parts n l l l l l ≡ no_results n)
+unfolding no_results
+no_results_lem n m h = ap (λ (l : List ℕ). results_as l l l l l) (zeros n m h)
 
 pub room : (n m : ℕ) → n ≤ m → (let l = replicate {A = ℕ} m 0 in Room n l l l l l)
 room n m h =
@@ -55,7 +55,7 @@ module _ (n : ℕ) where
       (i o e r j i' o' e' r' j' : List ℕ) → Room n i o e r j → length i' ≡ length (take n i) → length o' ≡ length (take n o)
       → length e' ≡ length (take n e) → length r' ≡ length (take n r) → length j' ≡ length (take n j)
       → Room n (after i i') (after o o') (after e e') (after r r') (after j j')
-      × (parts n (after i i') (after o o') (after e e') (after r r') (after j j') ≡ resultsAs i' o' e' r' j')
+      × (parts n (after i i') (after o o') (after e e') (after r r') (after j j') ≡ results_as i' o' e' r' j')
   left i o e r j i' o' e' r' j' h a b c d f = (
     record {
       intercepted = long i i' h.intercepted a;

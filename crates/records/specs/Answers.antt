@@ -1,14 +1,14 @@
 -- What the calls hand back, as the paper's.
 use Rattle.std.specs.Prelude.{List, ℕ}
 use Rattle.paper.specs.Day as paper
-use Rattle.records.specs.Past.{stateAs}
-use Rattle.records.specs.Verdicts.{verdictAs}
+use Rattle.records.specs.Past.{state_as}
+use Rattle.records.specs.Verdicts.{verdict_as}
 use Rattle.records.specs.declared.answers.Totals.{Totals}
 use Rattle.records.specs.declared.answers.Answer.{Answer}
 use Rattle.records.specs.declared.answers.Start.{Start}
 
-abbrev pub totalsAs : Totals → paper.Totals
-totalsAs t =
+abbrev pub totals_as : Totals → paper.Totals
+totals_as t =
     record {
       gross = t.gross.0;
       intercepted = t.intercepted.0;
@@ -20,11 +20,11 @@ totalsAs t =
     }
 
 -- a fresh state's answer with the lent stores as it left them
-abbrev pub freshAs : Start → List ℕ → List ℕ → paper.Fresh
-freshAs a soil snow = record { verdict = verdictAs a.verdict; state = stateAs soil snow a.past }
+abbrev pub fresh_as : Start → List ℕ → List ℕ → paper.Fresh
+fresh_as a soil snow = record { verdict = verdict_as a.verdict; state = state_as soil snow a.past }
 
-abbrev pub resultsAs : List ℕ → List ℕ → List ℕ → List ℕ → List ℕ → paper.Results
-resultsAs intercepted outflow evapotranspired recharged rejected =
+abbrev pub results_as : List ℕ → List ℕ → List ℕ → List ℕ → List ℕ → paper.Results
+results_as intercepted outflow evapotranspired recharged rejected =
     record {
       intercepted = intercepted;
       outflow = outflow;
@@ -34,11 +34,11 @@ resultsAs intercepted outflow evapotranspired recharged rejected =
     }
 
 -- a day's answer with the lent stores and results as it left them
-abbrev pub outcomeAs : Answer → List ℕ → List ℕ → paper.Results → paper.Outcome
-outcomeAs a soil snow results =
+abbrev pub outcome_as : Answer → List ℕ → List ℕ → paper.Results → paper.Outcome
+outcome_as a soil snow results =
     record {
-      verdict = verdictAs a.verdict;
+      verdict = verdict_as a.verdict;
       results = results;
-      totals = totalsAs a.totals;
-      state = stateAs soil snow a.past;
+      totals = totals_as a.totals;
+      state = state_as soil snow a.past;
     }

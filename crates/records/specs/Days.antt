@@ -7,11 +7,11 @@ use Rattle.records.specs.declared.days.DayRecord.{DayRecord}
 abbrev pub tenths : TenthF → ℤ
 tenths t = t.0
 
-abbrev pub dayAs : DayRecord → Day
-dayAs d =
+abbrev pub day_as : DayRecord → Day
+day_as d =
     record {
       serial = d.serial;
-      dayOfYear = d.day_of_year;
+      day_of_year = d.day_of_year;
       gross = d.gross.0;
       minimum = tenths d.minimum;
       mean = tenths d.mean;

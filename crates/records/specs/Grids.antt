@@ -6,24 +6,24 @@ use Rattle.records.specs.declared.grids.Season.{Season}
 use Rattle.records.specs.declared.grids.Setpoints.{Setpoints}
 use Rattle.records.specs.declared.grids.Climate.{Climate}
 
-abbrev pub gridAs : Grid → paper.Grid
-gridAs g = record { width = g.width; height = g.height }
+abbrev pub grid_as : Grid → paper.Grid
+grid_as g = record { width = g.width; height = g.height }
 
-abbrev pub seasonAs : Season → paper.Season
-seasonAs s = record { first = s.first; last = s.last }
+abbrev pub season_as : Season → paper.Season
+season_as s = record { first = s.first; last = s.last }
 
-abbrev pub setpointsAs : Setpoints → paper.Setpoints
-setpointsAs s = record { first = s.first.0; second = s.second.0 }
+abbrev pub setpoints_as : Setpoints → paper.Setpoints
+setpoints_as s = record { first = s.first.0; second = s.second.0 }
 
-abbrev pub climateAs : Climate → paper.Climate
-climateAs c = record { season = seasonAs c.season; setpoints = setpointsAs c.setpoints }
+abbrev pub climate_as : Climate → paper.Climate
+climate_as c = record { season = season_as c.season; setpoints = setpoints_as c.setpoints }
 
 -- with the lent cover table, directions, cover codes, groups and available water
-abbrev pub setupAs : Grid → Climate → List ℕ → List ℕ → List ℕ → List ℕ → List ℕ → paper.Setup
-setupAs g c covers direction cover group available =
+abbrev pub setup_as : Grid → Climate → List ℕ → List ℕ → List ℕ → List ℕ → List ℕ → paper.Setup
+setup_as g c covers direction cover group available =
     record {
-      grid = gridAs g;
-      climate = climateAs c;
+      grid = grid_as g;
+      climate = climate_as c;
       covers = covers;
       direction = direction;
       cover = cover;

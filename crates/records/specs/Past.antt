@@ -6,8 +6,8 @@ use Rattle.records.specs.declared.past.Last.{Last}
 use Rattle.records.specs.declared.past.Last.TheVariants.{Never, Serial}
 use Rattle.records.specs.declared.past.Past.{Past}
 
-abbrev pub memoryAs : Memory → paper.Memory
-memoryAs m =
+abbrev pub memory_as : Memory → paper.Memory
+memory_as m =
     record {
       oldest = m.oldest.0;
       fourth = m.fourth.0;
@@ -16,12 +16,12 @@ memoryAs m =
       yesterday = m.yesterday.0;
     }
 
-abbrev pub lastAs : Last → paper.Last
-lastAs Never = paper.none
-lastAs (Serial n) = paper.serial n
+abbrev pub last_as : Last → paper.Last
+last_as Never = paper.none
+last_as (Serial n) = paper.serial n
 
-abbrev pub pastAs : Past → paper.Past
-pastAs p = record { memory = memoryAs p.memory; last = lastAs p.last; frost = p.frost.0 }
+abbrev pub past_as : Past → paper.Past
+past_as p = record { memory = memory_as p.memory; last = last_as p.last; frost = p.frost.0 }
 
-abbrev pub stateAs : List ℕ → List ℕ → Past → paper.State
-stateAs soil snow past = record { soil = soil; snow = snow; past = pastAs past }
+abbrev pub state_as : List ℕ → List ℕ → Past → paper.State
+state_as soil snow past = record { soil = soil; snow = snow; past = past_as past }

@@ -5,34 +5,34 @@ use Rattle.records.specs.declared.verdicts.Refusal.TheVariants as refusals
 use Rattle.records.specs.declared.verdicts.Verdict.{Verdict}
 use Rattle.records.specs.declared.verdicts.Verdict.TheVariants.{Accepted, Refused}
 
-abbrev pub refusalAs : Refusal → paper.Refusal
-refusalAs refusals.Grid = paper.grid
-refusalAs refusals.Lent = paper.lent
-refusalAs (refusals.CoverTable e) = paper.coverTable e
-refusalAs (refusals.CellNumbers i) = paper.cellNumbers i
-refusalAs (refusals.Ring i) = paper.ring i
-refusalAs refusals.Climate = paper.climate
-refusalAs refusals.DayRecord = paper.dayRecord
-refusalAs refusals.SerialGap = paper.serialGap
-refusalAs (refusals.StateAt i) = paper.stateAt i
-refusalAs (refusals.Snowfall i) = paper.snowfall i
+abbrev pub refusal_as : Refusal → paper.Refusal
+refusal_as refusals.Grid = paper.grid
+refusal_as refusals.Lent = paper.lent
+refusal_as (refusals.CoverTable e) = paper.cover_table e
+refusal_as (refusals.CellNumbers i) = paper.cell_numbers i
+refusal_as (refusals.Ring i) = paper.ring i
+refusal_as refusals.Climate = paper.climate
+refusal_as refusals.DayRecord = paper.day_record
+refusal_as refusals.SerialGap = paper.serial_gap
+refusal_as (refusals.StateAt i) = paper.state_at i
+refusal_as (refusals.Snowfall i) = paper.snowfall i
 
-abbrev pub refusalIn : paper.Refusal → Refusal
-refusalIn paper.grid = refusals.Grid
-refusalIn paper.lent = refusals.Lent
-refusalIn (paper.coverTable e) = refusals.CoverTable e
-refusalIn (paper.cellNumbers i) = refusals.CellNumbers i
-refusalIn (paper.ring i) = refusals.Ring i
-refusalIn paper.climate = refusals.Climate
-refusalIn paper.dayRecord = refusals.DayRecord
-refusalIn paper.serialGap = refusals.SerialGap
-refusalIn (paper.stateAt i) = refusals.StateAt i
-refusalIn (paper.snowfall i) = refusals.Snowfall i
+abbrev pub refusal_in : paper.Refusal → Refusal
+refusal_in paper.grid = refusals.Grid
+refusal_in paper.lent = refusals.Lent
+refusal_in (paper.cover_table e) = refusals.CoverTable e
+refusal_in (paper.cell_numbers i) = refusals.CellNumbers i
+refusal_in (paper.ring i) = refusals.Ring i
+refusal_in paper.climate = refusals.Climate
+refusal_in paper.day_record = refusals.DayRecord
+refusal_in paper.serial_gap = refusals.SerialGap
+refusal_in (paper.state_at i) = refusals.StateAt i
+refusal_in (paper.snowfall i) = refusals.Snowfall i
 
-abbrev pub verdictAs : Verdict → paper.Verdict
-verdictAs Accepted = paper.accepted
-verdictAs (Refused why) = paper.refused (refusalAs why)
+abbrev pub verdict_as : Verdict → paper.Verdict
+verdict_as Accepted = paper.accepted
+verdict_as (Refused why) = paper.refused (refusal_as why)
 
-abbrev pub verdictIn : paper.Verdict → Verdict
-verdictIn paper.accepted = Accepted
-verdictIn (paper.refused why) = Refused (refusalIn why)
+abbrev pub verdict_in : paper.Verdict → Verdict
+verdict_in paper.accepted = Accepted
+verdict_in (paper.refused why) = Refused (refusal_in why)

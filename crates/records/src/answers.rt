@@ -1,7 +1,7 @@
 // What the calls hand back.
 ghost use Rattle.std.specs.Prelude.{◌≡◌};
-ghost use Rattle.paper.specs.Day.{noTotals};
-ghost use Rattle.records.specs.Answers.{totalsAs};
+ghost use Rattle.paper.specs.Day.{no_totals};
+ghost use Rattle.records.specs.Answers.{totals_as};
 ghost use Rattle.records.specs.declared.verdicts.Verdict.TheVariants.{Accepted};
 
 use crate::past::Past;
@@ -9,7 +9,7 @@ use crate::quantities::Depth;
 use crate::verdicts::Verdict;
 
 // Sums over the cells; of what is gone and rejected, only where water leaves: over the edge and from open water, and in closed depressions.
-#[derive(Drop)]
+#[derive(Clone, Copy)]
 pub struct Totals {
     pub gross: Depth,
     pub intercepted: Depth,
@@ -20,7 +20,7 @@ pub struct Totals {
     pub stored: Depth,
 }
 
-#[derive(Drop)]
+#[derive(Clone, Copy)]
 pub struct Answer {
     pub verdict: Verdict,
     pub totals: Totals,
@@ -28,7 +28,7 @@ pub struct Answer {
 }
 
 // What a fresh state has besides its stores.
-#[derive(Drop)]
+#[derive(Clone, Copy)]
 pub struct Start {
     pub verdict: Verdict,
     pub past: Past,
@@ -36,7 +36,7 @@ pub struct Start {
 
 impl Totals {
     pub fn none() -> Totals
-        ensures { totalsAs result ≡ noTotals }
+        ensures { totals_as result ≡ no_totals }
     {
         Totals {
             gross: Depth(0),
@@ -53,7 +53,7 @@ impl Totals {
 impl Answer {
     // A refused day hands back what it was given, and no totals.
     pub fn refused(verdict: Verdict, past: Past) -> Answer
-        ensures { (result.verdict ≡ verdict) × (totalsAs result.totals ≡ noTotals) × (result.past ≡ past) }
+        ensures { (result.verdict ≡ verdict) × (totals_as result.totals ≡ no_totals) × (result.past ≡ past) }
     {
         Answer {
             verdict,

@@ -1,14 +1,14 @@
 // The day record and its limits: test 7.
 ghost use Rattle.std.specs.Prelude.{◌≡◌};
 ghost use Rattle.std.specs.Int.Signed.{le_z};
-ghost use Rattle.paper.specs.Limits.{withinℤ, leastTemperature, mostTemperature};
-ghost use Rattle.paper.specs.State.{dayFits};
-ghost use Rattle.records.specs.Days.{tenths, dayAs};
+ghost use Rattle.paper.specs.Limits.{withinℤ, least_temperature, most_temperature};
+ghost use Rattle.paper.specs.State.{day_fits};
+ghost use Rattle.records.specs.Days.{tenths, day_as};
 
 use crate::grids::Season;
 use crate::quantities::{Depth, TenthF};
 
-#[derive(Drop)]
+#[derive(Clone, Copy)]
 pub struct DayRecord {
     pub serial: u32,
     pub day_of_year: u32,
@@ -20,7 +20,7 @@ pub struct DayRecord {
 }
 
 fn measured(t: TenthF) -> bool
-    ensures { result ≡ withinℤ leastTemperature mostTemperature (tenths t) }
+    ensures { result ≡ withinℤ least_temperature most_temperature (tenths t) }
 {
     (TenthF::LEAST.0 <= t.0) & (t.0 <= TenthF::MOST.0)
 }
@@ -35,7 +35,7 @@ impl DayRecord {
     pub const MOST_SERIAL: u32 = 9999999;
 
     pub fn fits(self) -> bool
-        ensures { result ≡ dayFits (dayAs self) }
+        ensures { result ≡ day_fits (day_as self) }
     {
         let minimum = self.minimum;
         let mean = self.mean;

@@ -1,6 +1,6 @@
 // Frozen ground: what a day does to the frost index, by its mean temperature.
 ghost use Rattle.std.specs.Prelude.{◌≡◌, ◌-◌};
-ghost use Rattle.paper.specs.Frost.{frostAfter};
+ghost use Rattle.paper.specs.Frost.{frost_after};
 ghost use Rattle.records.specs.Days.{tenths};
 
 use crate::quantities::{FrostIndex, TenthF};
@@ -15,7 +15,7 @@ fn left_of(kept: u64, lost: u64) -> u64
 // Answers every index and every mean. Whole hundreds of the index are taken apart from the rest, so that no product passes 64 bits; a floor below zero, taken
 // away, is a quotient rounded up that is added.
 pub fn frost_after(index: FrostIndex, mean: TenthF) -> FrostIndex
-    ensures { result.0 ≡ frostAfter index.0 (tenths mean) }
+    ensures { result.0 ≡ frost_after index.0 (tenths mean) }
 {
     let hundreds = index.0 / FrostIndex::KEPT_OF;
     let rest = index.0 % FrostIndex::KEPT_OF;

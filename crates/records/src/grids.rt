@@ -1,33 +1,33 @@
 // The grid, the growing season and the setpoints of the frost index, with their limits: tests 1 and 6.
 ghost use Rattle.std.specs.Prelude.{◌≡◌};
-ghost use Rattle.paper.specs.Setup.{cells_of, gridFits, seasonFits, setpointsFit, climateFits, growing};
-ghost use Rattle.records.specs.Grids.{gridAs, seasonAs, setpointsAs, climateAs};
+ghost use Rattle.paper.specs.Setup.{cells_of, grid_fits, season_fits, setpoints_fit, climate_fits, growing};
+ghost use Rattle.records.specs.Grids.{grid_as, season_as, setpoints_as, climate_as};
 
 use crate::lent::index_of;
 use crate::quantities::FrostIndex;
 
-#[derive(Drop)]
+#[derive(Clone, Copy)]
 pub struct Grid {
     pub width: u32,
     pub height: u32,
 }
 
 // The first and the last growing day.
-#[derive(Drop)]
+#[derive(Clone, Copy)]
 pub struct Season {
     pub first: u32,
     pub last: u32,
 }
 
 // From the first on condition I counts as II, from the second on every day as III.
-#[derive(Drop)]
+#[derive(Clone, Copy)]
 pub struct Setpoints {
     pub first: FrostIndex,
     pub second: FrostIndex,
 }
 
 // What a setup says of the whole year.
-#[derive(Drop)]
+#[derive(Clone, Copy)]
 pub struct Climate {
     pub season: Season,
     pub setpoints: Setpoints,
@@ -37,7 +37,7 @@ pub const MOST_CELLS: usize = 4096;
 
 impl Grid {
     pub fn cells(self) -> usize
-        ensures { result ≡ cells_of (gridAs self) }
+        ensures { result ≡ cells_of (grid_as self) }
     {
         let width = self.width;
         let height = self.height;
@@ -45,7 +45,7 @@ impl Grid {
     }
 
     pub fn fits(self) -> bool
-        ensures { result ≡ gridFits (gridAs self) }
+        ensures { result ≡ grid_fits (grid_as self) }
     {
         (1 <= self.width) & (1 <= self.height) & (self.cells() <= MOST_CELLS)
     }
@@ -55,7 +55,7 @@ impl Season {
     pub const LAST_DAY_OF_YEAR: u32 = 366;
 
     pub fn fits(self) -> bool
-        ensures { result ≡ seasonFits (seasonAs self) }
+        ensures { result ≡ season_fits (season_as self) }
     {
         ((1 <= self.first) & (self.first <= Season::LAST_DAY_OF_YEAR))
             & ((1 <= self.last) & (self.last <= Season::LAST_DAY_OF_YEAR))
@@ -64,7 +64,7 @@ impl Season {
 
     // Both ends of the season count.
     pub fn grows(self, day_of_year: u32) -> bool
-        ensures { result ≡ growing (seasonAs self) day_of_year }
+        ensures { result ≡ growing (season_as self) day_of_year }
     {
         (self.first <= day_of_year) & (day_of_year <= self.last)
     }
@@ -72,7 +72,7 @@ impl Season {
 
 impl Setpoints {
     pub fn fit(self) -> bool
-        ensures { result ≡ setpointsFit (setpointsAs self) }
+        ensures { result ≡ setpoints_fit (setpoints_as self) }
     {
         let most = FrostIndex::MOST_SETPOINT.0;
         (self.first.0 <= most) & (self.second.0 <= most) & (self.first.0 <= self.second.0)
@@ -81,7 +81,7 @@ impl Setpoints {
 
 impl Climate {
     pub fn fits(self) -> bool
-        ensures { result ≡ climateFits (climateAs self) }
+        ensures { result ≡ climate_fits (climate_as self) }
     {
         let season = self.season;
         let setpoints = self.setpoints;

@@ -1,6 +1,6 @@
 // Lent slices: one entry a cell, which is test 2. A lent number has 32 bits, and the rules work in 64.
 ghost use Rattle.std.specs.Prelude.{[], ◌∷◌, ◌≡◌};
-ghost use Rattle.paper.specs.Refusals.{oneEach};
+ghost use Rattle.paper.specs.Refusals.{one_each};
 
 use crate::quantities::Depth;
 
@@ -23,13 +23,13 @@ pub fn depth(cell: u32) -> Depth
 }
 
 pub fn setup_each(n: usize, direction: usize, cover: usize, group: usize, available: usize) -> bool
-    ensures { result ≡ oneEach n (direction ∷ cover ∷ group ∷ available ∷ []) }
+    ensures { result ≡ one_each n (direction ∷ cover ∷ group ∷ available ∷ []) }
 {
     (direction == n) & ((cover == n) & ((group == n) & ((available == n) & true)))
 }
 
 pub fn stores_each(n: usize, soil: usize, snow: usize) -> bool
-    ensures { result ≡ oneEach n (soil ∷ snow ∷ []) }
+    ensures { result ≡ one_each n (soil ∷ snow ∷ []) }
 {
     (soil == n) & ((snow == n) & true)
 }
@@ -42,7 +42,7 @@ pub fn results_each(
     recharged: usize,
     rejected: usize,
 ) -> bool
-    ensures { result ≡ oneEach n (intercepted ∷ outflow ∷ evapotranspired ∷ recharged ∷ rejected ∷ []) }
+    ensures { result ≡ one_each n (intercepted ∷ outflow ∷ evapotranspired ∷ recharged ∷ rejected ∷ []) }
 {
     (intercepted == n)
         & ((outflow == n)

@@ -1,4 +1,6 @@
 // What the office hands over and what comes back: quantities, records and their limits, and verdicts. Every function here answers every input.
+#![tactic(auto)]
+
 mod answers;
 mod days;
 mod frost;

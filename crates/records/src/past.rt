@@ -1,15 +1,15 @@
 // What a state has besides its stores: the rain memory, the last serial and the frost index, with their limits, which belong to test 9.
 ghost use Rattle.std.specs.Prelude.{◌≡◌};
-ghost use Rattle.paper.specs.State.{remembered, memoryFits, lastFits, pastFits, noPast, pastAfter, follows};
-ghost use Rattle.records.specs.Past.{memoryAs, lastAs, pastAs};
-ghost use Rattle.records.specs.Days.{dayAs};
+ghost use Rattle.paper.specs.State.{remembered, memory_fits, last_fits, past_fits, no_past, past_after, follows};
+ghost use Rattle.records.specs.Past.{memory_as, last_as, past_as};
+ghost use Rattle.records.specs.Days.{day_as};
 
 use crate::days::DayRecord;
 use crate::frost::frost_after;
 use crate::quantities::{Depth, FrostIndex};
 
 // The gross precipitation of the five previous days.
-#[derive(Drop)]
+#[derive(Clone, Copy)]
 pub struct Memory {
     pub oldest: Depth,
     pub fourth: Depth,
@@ -19,13 +19,13 @@ pub struct Memory {
 }
 
 // The last serial, or none yet.
-#[derive(Drop)]
+#[derive(Clone, Copy)]
 pub enum Last {
     Never,
     Serial(u32),
 }
 
-#[derive(Drop)]
+#[derive(Clone, Copy)]
 pub struct Past {
     pub memory: Memory,
     pub last: Last,
@@ -34,7 +34,7 @@ pub struct Past {
 
 impl Memory {
     pub fn next(self, gross: Depth) -> Memory
-        ensures { memoryAs result ≡ remembered (memoryAs self) gross.0 }
+        ensures { memory_as result ≡ remembered (memory_as self) gross.0 }
     {
         let fourth = self.fourth;
         let third = self.third;
@@ -50,7 +50,7 @@ impl Memory {
     }
 
     pub fn fits(self) -> bool
-        ensures { result ≡ memoryFits (memoryAs self) }
+        ensures { result ≡ memory_fits (memory_as self) }
     {
         let most = Depth::MOST_GROSS.0;
         (self.oldest.0 <= most)
@@ -63,7 +63,7 @@ impl Memory {
 
 impl Last {
     pub fn fits(self) -> bool
-        ensures { result ≡ lastFits (lastAs self) }
+        ensures { result ≡ last_fits (last_as self) }
     {
         match self {
             Last::Never => true,
@@ -73,7 +73,7 @@ impl Last {
 
     // Test 8. One more than the last serial can pass 32 bits.
     pub fn is_followed_by(self, serial: u32) -> bool
-        ensures { result ≡ follows (lastAs self) serial }
+        ensures { result ≡ follows (last_as self) serial }
     {
         match self {
             Last::Never => true,
@@ -85,7 +85,7 @@ impl Last {
 impl Past {
     // No rain remembered, no serial and no frost.
     pub fn none() -> Past
-        ensures { pastAs result ≡ noPast }
+        ensures { past_as result ≡ no_past }
     {
         let memory = Memory {
             oldest: Depth(0),
@@ -103,7 +103,7 @@ impl Past {
 
     // After an accepted day: its gross figure is remembered, its serial is the last, and the frost index is the one that it set.
     pub fn after(self, day: DayRecord) -> Past
-        ensures { pastAs result ≡ pastAfter (pastAs self) (dayAs day) }
+        ensures { past_as result ≡ past_after (past_as self) (day_as day) }
     {
         let memory = self.memory;
         let frost = self.frost;
@@ -117,7 +117,7 @@ impl Past {
     }
 
     pub fn fits(self) -> bool
-        ensures { result ≡ pastFits (pastAs self) }
+        ensures { result ≡ past_fits (past_as self) }
     {
         let memory = self.memory;
         let last = self.last;

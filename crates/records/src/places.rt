@@ -1,5 +1,5 @@
 // The lowest place that fails a test.
-#[derive(Drop)]
+#[derive(Clone, Copy)]
 pub enum Place {
     At(usize),
     Nowhere,

@@ -1,23 +1,23 @@
 // The paper's quantities, each a type of its own, so that a temperature handed over where a depth belongs does not compile.
 // The limits that bound a quantity stand with it.
 ghost use Rattle.std.specs.Prelude.{◌≡◌, ◌-◌, ◌<◌, min};
-ghost use Rattle.paper.specs.Snow.{aboveFreezing};
+ghost use Rattle.paper.specs.Snow.{above_freezing};
 ghost use Rattle.records.specs.Days.{tenths};
-ghost use Rattle.records.specs.Temperatures.{belowFreezing, farthest};
+ghost use Rattle.records.specs.Temperatures.{below_freezing, farthest};
 
 // Units of 0.0001 inch.
-#[derive(Drop)]
+#[derive(Clone, Copy)]
 pub struct Depth(pub u64);
 
 // Tenths of a degree Fahrenheit.
-#[derive(Drop)]
+#[derive(Clone, Copy)]
 pub struct TenthF(pub i32);
 
-#[derive(Drop)]
+#[derive(Clone, Copy)]
 pub struct CurveNumber(pub u64);
 
 // Thousandths of a Celsius degree-day.
-#[derive(Drop)]
+#[derive(Clone, Copy)]
 pub struct FrostIndex(pub u64);
 
 impl Depth {
@@ -63,7 +63,7 @@ impl TenthF {
 
     // Tenths above freezing; 0 where it is not.
     pub fn above_freezing(self) -> u64
-        ensures { (result ≡ aboveFreezing (tenths self)) × (result < farthest) }
+        ensures { (result ≡ above_freezing (tenths self)) × (result < farthest) }
     {
         if self.0 <= TenthF::FREEZING.0 {
             return 0;
@@ -73,7 +73,7 @@ impl TenthF {
 
     // Tenths below freezing; 0 where it is not. The difference can pass 32 bits.
     pub fn below_freezing(self) -> u64
-        ensures { (result ≡ belowFreezing (tenths self)) × (result < farthest) }
+        ensures { (result ≡ below_freezing (tenths self)) × (result < farthest) }
     {
         if TenthF::FREEZING.0 <= self.0 {
             return 0;

@@ -1,9 +1,9 @@
 // What is wrong, with its place. A verdict says the paper's number and place of itself.
 ghost use Rattle.std.specs.Prelude.{◌≡◌, ◌≤◌};
-ghost use Rattle.paper.specs.Refusals.{number_of, place_of, verdictNumber, verdictPlace};
-ghost use Rattle.records.specs.Verdicts.{refusalAs, verdictAs};
+ghost use Rattle.paper.specs.Refusals.{number_of, place_of, verdict_number, verdict_place};
+ghost use Rattle.records.specs.Verdicts.{refusal_as, verdict_as};
 
-#[derive(Drop)]
+#[derive(Clone, Copy)]
 pub enum Refusal {
     Grid,
     Lent,
@@ -17,7 +17,7 @@ pub enum Refusal {
     Snowfall(usize),
 }
 
-#[derive(Drop)]
+#[derive(Clone, Copy)]
 pub enum Verdict {
     Accepted,
     Refused(Refusal),
@@ -25,7 +25,7 @@ pub enum Verdict {
 
 impl Refusal {
     pub fn number(self) -> u32
-        ensures { (result ≡ number_of (refusalAs self)) × (result ≤ 10) }
+        ensures { (result ≡ number_of (refusal_as self)) × (result ≤ 10) }
     {
         match self {
             Refusal::Grid => 1,
@@ -42,7 +42,7 @@ impl Refusal {
     }
 
     pub fn place(self) -> usize
-        ensures { result ≡ place_of (refusalAs self) }
+        ensures { result ≡ place_of (refusal_as self) }
     {
         match self {
             Refusal::Grid => 0,
@@ -62,7 +62,7 @@ impl Refusal {
 impl Verdict {
     // 0 where it accepts.
     pub fn number(self) -> u32
-        ensures { (result ≡ verdictNumber (verdictAs self)) × (result ≤ 10) }
+        ensures { (result ≡ verdict_number (verdict_as self)) × (result ≤ 10) }
     {
         match self {
             Verdict::Accepted => 0,
@@ -71,7 +71,7 @@ impl Verdict {
     }
 
     pub fn place(self) -> usize
-        ensures { result ≡ verdictPlace (verdictAs self) }
+        ensures { result ≡ verdict_place (verdict_as self) }
     {
         match self {
             Verdict::Accepted => 0,

@@ -9,33 +9,33 @@ use lib.ListN.{length}
 use Rattle.paper.specs.State.{Day}
 use Rattle.paper.specs.Day.{Totals}
 use Rattle.words.specs.Writing.{farthest, Put, Wrote}
-use Rattle.words.proofs.WritingLaws.{put-none, put_then, put_as}
-use Rattle.daybook.specs.Days.{dayIn}
-use Rattle.daybook.specs.Totals.{totalsIn}
-use Rattle.lines.specs.Lines.{dayLine, endLine}
-use Rattle.lines.specs.Writing.{mostLine, mostEnd}
-use Rattle.season.specs.Lines.{dayLines, dayCount, lines_of}
+use Rattle.words.proofs.WritingLaws.{put_none, put_then, put_as}
+use Rattle.daybook.specs.Days.{day_in}
+use Rattle.daybook.specs.Totals.{totals_in}
+use Rattle.lines.specs.Lines.{day_line, end_line}
+use Rattle.lines.specs.Writing.{most_line, most_end}
+use Rattle.season.specs.Lines.{day_lines, day_count, lines_of}
 
 module _ (days : List ℤ) (totals : List ℕ) where
-  pub days-none : (l : List ℕ) → Put 0 (dayLines days totals 0) l l 0
-  unfolding dayLines
-  days-none l = put-none 0 l (omega arith)
+  pub days_none : (l : List ℕ) → Put 0 (day_lines days totals 0) l l 0
+  unfolding day_lines
+  days_none l = put_none 0 l (omega arith)
 
-  pub days-more :
-      {mid r : ℕ} {l l₁ l₂ : List ℕ} (k : ℕ) (day : Day) (ts : Totals) → length l ≤ farthest → day ≡ dayIn days k → ts ≡ totalsIn totals k
-      → Put 0 (dayLines days totals k) l l₁ mid → Wrote mostLine mid (dayLine day.serial ts) l₁ l₂ r
-      → Put 0 (dayLines days totals (k + 1)) l l₂ r
-  unfolding dayLines
-  days-more k day ts long is are w v =
-      rw (add-one k) (put_then long w (put_as _ v.put (λ t. dayLine (is t).serial (are t))))
+  pub days_more :
+      {mid r : ℕ} {l l₁ l₂ : List ℕ} (k : ℕ) (day : Day) (ts : Totals) → length l ≤ farthest → day ≡ day_in days k → ts ≡ totals_in totals k
+      → Put 0 (day_lines days totals k) l l₁ mid → Wrote most_line mid (day_line day.serial ts) l₁ l₂ r
+      → Put 0 (day_lines days totals (k + 1)) l l₂ r
+  unfolding day_lines
+  days_more k day ts long is are w v =
+      rw (add-one k) (put_then long w (put_as _ v.put (λ t. day_line (is t).serial (are t))))
 
-  pub days-all : {r : ℕ} {l l' : List ℕ} (k count : ℕ) → k ≤ count → count ≤ k → Put 0 (dayLines days totals k) l l' r → Put 0 (dayLines days totals count) l l' r
-  days-all k count low high w = put_as _ w (ap (dayLines days totals) (omega arith))
+  pub days_all : {r : ℕ} {l l' : List ℕ} (k count : ℕ) → k ≤ count → count ≤ k → Put 0 (day_lines days totals k) l l' r → Put 0 (day_lines days totals count) l l' r
+  days_all k count low high w = put_as _ w (ap (day_lines days totals) (omega arith))
 
-  pub lines-ended :
-      {mid r : ℕ} {l l₁ l₂ : List ℕ} (count n : ℕ) → length l ≤ farthest → count ≡ dayCount days totals → n ≡ count
-      → Put 0 (dayLines days totals count) l l₁ mid → Wrote mostEnd mid (endLine n) l₁ l₂ r
+  pub lines_ended :
+      {mid r : ℕ} {l l₁ l₂ : List ℕ} (count n : ℕ) → length l ≤ farthest → count ≡ day_count days totals → n ≡ count
+      → Put 0 (day_lines days totals count) l l₁ mid → Wrote most_end mid (end_line n) l₁ l₂ r
       → Put 0 (lines_of days totals) l l₂ r
   unfolding lines_of
-  lines-ended count n long is told w v =
-      rw (← is) (put_then long w (put_as _ v.put (ap endLine told)))
+  lines_ended count n long is told w v =
+      rw (← is) (put_then long w (put_as _ v.put (ap end_line told)))

@@ -15,35 +15,35 @@ use mir.Val.{SFits, to_z, of_z}
 use mir.Facts.{to_z-of_z, to_z_pos}
 use borrow.Author.Tests.{lt-ltb, le-ltb, ne_eqb, eq-eqb}
 use Rattle.words.specs.Words.{words}
-use Rattle.words.specs.Numbers.{Word, good, bad, number, meaningIn}
+use Rattle.words.specs.Numbers.{Word, good, bad, number, meaning_in}
 use Rattle.words.specs.Spans.{part, NextWord}
 use Rattle.words.specs.declared.numbers.Meaning.TheVariants.{Plain, Below, Bad as NoMeaning}
-use Rattle.words.proofs.NumberLaws.{NineDigits, Small, number_small, plain-small, below-small}
-use Rattle.words.proofs.WordLaws.{words-few}
+use Rattle.words.proofs.NumberLaws.{NineDigits, Small, number_small, plain_small, below_small}
+use Rattle.words.proofs.WordLaws.{words_few}
 use Rattle.lines.specs.Reading.{Reading, and_then, meant, reading}
-use Rattle.season.specs.Reading.{readIn, daysIn, weatherIn, ReadDays}
+use Rattle.season.specs.Reading.{read_in, days_in, weather_in, ReadDays}
 use Rattle.season.specs.declared.reading.Read.TheVariants.{Number, Bad as NoNumber}
 use Rattle.season.specs.declared.reading.Weather.{Weather}
 use Rattle.season.specs.declared.reading.Weather.TheVariants.{Days, Bad, CutOff, TooMany}
 
 -- so many numbers are a day cut off, too many, or days
 module _ (n room : ℕ) where
-  pub cut_off : (n % 7 ≡ 0 → ⊥) → CutOff n ≡ daysIn n room
-  unfolding daysIn
+  pub cut_off : (n % 7 ≡ 0 → ⊥) → CutOff n ≡ days_in n room
+  unfolding days_in
   cut_off h = rw (ne_eqb (n % 7) 0 h) refl
 
   module _ (whole : n % 7 ≡ 0) where
-    pub too_many : room < n → TooMany n ≡ daysIn n room
-    unfolding daysIn
+    pub too_many : room < n → TooMany n ≡ days_in n room
+    unfolding days_in
     too_many h = rw (eq-eqb (n % 7) 0 whole, lt-ltb room n h) refl
 
-    pub all-days : n ≤ room → Days (n / 7) ≡ daysIn n room
-    unfolding daysIn
-    all-days h = rw (eq-eqb (n % 7) 0 whole, le-ltb room n h) refl
+    pub all_days : n ≤ room → Days (n / 7) ≡ days_in n room
+    unfolding days_in
+    all_days h = rw (eq-eqb (n % 7) 0 whole, le-ltb room n h) refl
 
 -- a number that is read has at most nine digits
-number_fits : (m : Word) (z : ℤ) → Small m → Number z ≡ readIn m → SFits w32 z
-unfolding Small NineDigits readIn
+number_fits : (m : Word) (z : ℤ) → Small m → Number z ≡ read_in m → SFits w32 z
+unfolding Small NineDigits read_in
 number_fits (good (pos n)) z s e = let same : z ≡ pos n = cc in rw same (record { sfits = omega (arith, s) })
 number_fits (good (negsuc n)) z s e = let same : z ≡ negsuc n = cc in rw same (record { sfits = omega (arith, s) })
 number_fits bad z s e = absurd (let o : ◌≡◌ {A = ℕ} 0 1 = cc in omega arith)
@@ -55,25 +55,25 @@ pub record Left (before : List ℤ) (all : Reading) (now : List ℤ) (count : �
   pub whole : all.whole ≡ left.whole
 
 module _ (before : List ℤ) (all : Reading) (now : List ℤ) (count : ℕ) where
-  good-word :
-      (m : Word) (rest : Reading) (z : ℤ) → Number z ≡ readIn m → Left before all now count (and_then m rest)
+  good_word :
+      (m : Word) (rest : Reading) (z : ℤ) → Number z ≡ read_in m → Left before all now count (and_then m rest)
       → Left before all (set now count z) (count + 1) rest
-  unfolding and_then readIn
-  good-word (good y) rest z e l =
+  unfolding and_then read_in
+  good_word (good y) rest z e l =
       let same : z ≡ y = cc in
       record {
         stored = rw (same, add-one count) l.stored;
         counted = omega (arith, l.counted);
         whole = l.whole;
       }
-  good-word bad rest z e l = absurd (let o : ◌≡◌ {A = ℕ} 0 1 = cc in omega arith)
+  good_word bad rest z e l = absurd (let o : ◌≡◌ {A = ℕ} 0 1 = cc in omega arith)
 
-  bad-word :
-      (m : Word) (rest : Reading) → NoNumber ≡ readIn m → Left before all now count (and_then m rest)
+  bad_word :
+      (m : Word) (rest : Reading) → NoNumber ≡ read_in m → Left before all now count (and_then m rest)
       → Left before all now count (record { numbers = []; whole = false })
-  unfolding and_then readIn
-  bad-word (good z) rest e l = absurd (let o : ◌≡◌ {A = ℕ} 0 1 = cc in omega arith)
-  bad-word bad rest e l = l
+  unfolding and_then read_in
+  bad_word (good z) rest e l = absurd (let o : ◌≡◌ {A = ℕ} 0 1 = cc in omega arith)
+  bad_word bad rest e l = l
 
 -- where the reader stands, before a word or after the last: a word takes at least two bytes with the blank after it
 pub record Stands (text : List ℕ) (before now : List ℤ) (count start end : ℕ) : Type 0 where
@@ -83,13 +83,13 @@ pub record Stands (text : List ℕ) (before now : List ℤ) (count start end : �
   pub few : 2 * (count + length (words (drop from text))) ≤ length text + 1
   pub sized : length now ≡ length before
 
-pub stands-first : (text : List ℕ) (before : List ℤ) (start end : ℕ) → NextWord text 0 start end → Stands text before before 0 start end
-stands-first text before start end next =
+pub stands_first : (text : List ℕ) (before : List ℤ) (start end : ℕ) → NextWord text 0 start end → Stands text before before 0 start end
+stands_first text before start end next =
     record {
       from = 0;
       next = next;
       left = record { stored = refl; counted = sym (zero-add (length (reading text).numbers)); whole = refl };
-      few = omega (arith, words-few text);
+      few = omega (arith, words_few text);
       sized = refl;
     }
 
@@ -102,81 +102,81 @@ module _ (text : List ℕ) (before now : List ℤ) (count start end : ℕ) (s : 
     ahead : length (words (drop s.from text)) ≡ suc (length (words (drop end text)))
     ahead = ap length (s.next.found more)
 
-    pub count-few : count < length text
-    count-few = omega (arith, s.few, ahead, s.next.inside more)
+    pub count_few : count < length text
+    count_few = omega (arith, s.few, ahead, s.next.inside more)
 
-    pub next-number :
-        (z : ℤ) (now' : List ℤ) (start' end' : ℕ) → Number z ≡ readIn (number (part text start end)) → now' ≡ set now count (to_z w32 (of_z w32 z))
+    pub next_number :
+        (z : ℤ) (now' : List ℤ) (start' end' : ℕ) → Number z ≡ read_in (number (part text start end)) → now' ≡ set now count (to_z w32 (of_z w32 z))
         → NextWord text end start' end' → Stands text before now' (count + 1) start' end'
-    next-number z now' start' end' e wrote next =
+    next_number z now' start' end' e wrote next =
         let word = part text start end in
         let is : now' ≡ set now count z = wrote ∙ ap (set now count) (to_z-of_z (number_fits (number word) z (number_small word) e)) in
         record {
           from = end;
           next = next;
-          left = rw is (good-word before (reading text) now count (number word) (reading (drop end text)) z e (rw onward at s.left));
+          left = rw is (good_word before (reading text) now count (number word) (reading (drop end text)) z e (rw onward at s.left));
           few = omega (arith, s.few, ahead);
           sized = ap length is ∙ length-set now count z ∙ s.sized;
         }
 
-    pub bad-end : NoNumber ≡ readIn (number (part text start end)) → ReadDays text before now (Bad count)
-    unfolding weatherIn
-    bad-end e =
-        let l = bad-word before (reading text) now count (number (part text start end)) (reading (drop end text)) e (rw onward at s.left) in
+    pub bad_end : NoNumber ≡ read_in (number (part text start end)) → ReadDays text before now (Bad count)
+    unfolding weather_in
+    bad_end e =
+        let l = bad_word before (reading text) now count (number (part text start end)) (reading (drop end text)) e (rw onward at s.left) in
         let n : length (reading text).numbers ≡ count = l.counted ∙ add-zero count in
         record { answer = rw (l.whole, n) refl; numbers = sym l.stored }
 
-  pub all_read : end ≤ start → (r : Weather) → r ≡ daysIn count (length now) → ReadDays text before now r
-  unfolding weatherIn reading meant
+  pub all_read : end ≤ start → (r : Weather) → r ≡ days_in count (length now) → ReadDays text before now r
+  unfolding weather_in reading meant
   all_read none r e =
       let l : Left before (reading text) now count (meant []) = rw (s.next.none none) at s.left in
       let n : length (reading text).numbers ≡ count = l.counted ∙ add-zero count in
       record { answer = e ∙ rw (l.whole, n, s.sized) refl; numbers = sym l.stored }
 
 -- a word's meaning as a number of 32 bits with its sign
-read_plain : (m : Word) (n : ℕ) → meaningIn m ≡ Plain n → Number (pos n) ≡ readIn m
-unfolding meaningIn readIn
+read_plain : (m : Word) (n : ℕ) → meaning_in m ≡ Plain n → Number (pos n) ≡ read_in m
+unfolding meaning_in read_in
 read_plain (good (pos k)) n e = cc
 read_plain (good (negsuc k)) n e = absurd (let o : ◌≡◌ {A = ℕ} 0 1 = cc in omega arith)
 read_plain bad n e = absurd (let o : ◌≡◌ {A = ℕ} 0 1 = cc in omega arith)
 
-less-suc : (k : ℕ) → pos 0 -ℤ pos (suc k) ≡ negsuc k
-less-suc k = rw (lt-ltb 0 (suc k) (omega arith)) (ap negsuc (omega arith))
+less_suc : (k : ℕ) → pos 0 -ℤ pos (suc k) ≡ negsuc k
+less_suc k = rw (lt-ltb 0 (suc k) (omega arith)) (ap negsuc (omega arith))
 
-less-fits : (n : ℕ) → n < 1000000000 → SFits w32 (pos 0 -ℤ pos n)
-less-fits zero h = record { sfits = omega arith }
-less-fits (suc k) h = rw (less-suc k) (record { sfits = omega arith })
+less_fits : (n : ℕ) → n < 1000000000 → SFits w32 (pos 0 -ℤ pos n)
+less_fits zero h = record { sfits = omega arith }
+less_fits (suc k) h = rw (less_suc k) (record { sfits = omega arith })
 
-read_below : (m : Word) (n : ℕ) → meaningIn m ≡ Below n → Number (pos 0 -ℤ pos n) ≡ readIn m
-unfolding meaningIn readIn
+read_below : (m : Word) (n : ℕ) → meaning_in m ≡ Below n → Number (pos 0 -ℤ pos n) ≡ read_in m
+unfolding meaning_in read_in
 read_below (good (pos k)) n e = absurd (let o : ◌≡◌ {A = ℕ} 0 1 = cc in omega arith)
-read_below (good (negsuc k)) n e = let same : suc k ≡ n = cc in rw (← same) (ap Number (less-suc k))
+read_below (good (negsuc k)) n e = let same : suc k ≡ n = cc in rw (← same) (ap Number (less_suc k))
 read_below bad n e = absurd (let o : ◌≡◌ {A = ℕ} 0 1 = cc in omega arith)
 
-pub read-bad : (m : Word) → meaningIn m ≡ NoMeaning → NoNumber ≡ readIn m
-unfolding meaningIn readIn
-read-bad (good (pos k)) e = absurd (let o : ◌≡◌ {A = ℕ} 0 1 = cc in omega arith)
-read-bad (good (negsuc k)) e = absurd (let o : ◌≡◌ {A = ℕ} 0 1 = cc in omega arith)
-read-bad bad e = refl
+pub read_bad : (m : Word) → meaning_in m ≡ NoMeaning → NoNumber ≡ read_in m
+unfolding meaning_in read_in
+read_bad (good (pos k)) e = absurd (let o : ◌≡◌ {A = ℕ} 0 1 = cc in omega arith)
+read_bad (good (negsuc k)) e = absurd (let o : ◌≡◌ {A = ℕ} 0 1 = cc in omega arith)
+read_bad bad e = refl
 
 module _ (w : List ℕ) (n : ℕ) where
-  module _ (e : meaningIn (number w) ≡ Plain n) where
+  module _ (e : meaning_in (number w) ≡ Plain n) where
     pub plain_fits : SFits w32 (pos n)
-    plain_fits = record { sfits = omega (arith, plain-small (number w) n (number_small w) e) }
+    plain_fits = record { sfits = omega (arith, plain_small (number w) n (number_small w) e) }
 
-    pub plain-is : Number (to_z w32 n) ≡ readIn (number w)
-    plain-is = ap Number (to_z_pos w32 (omega (arith, plain-small (number w) n (number_small w) e))) ∙ read_plain (number w) n e
+    pub plain_is : Number (to_z w32 n) ≡ read_in (number w)
+    plain_is = ap Number (to_z_pos w32 (omega (arith, plain_small (number w) n (number_small w) e))) ∙ read_plain (number w) n e
 
-  module _ (e : meaningIn (number w) ≡ Below n) where
+  module _ (e : meaning_in (number w) ≡ Below n) where
     small : n < 1000000000
-    small = below-small (number w) n (number_small w) e
+    small = below_small (number w) n (number_small w) e
 
-    pub minus-near : SFits w32 (pos n)
-    minus-near = record { sfits = omega (arith, small) }
+    pub minus_near : SFits w32 (pos n)
+    minus_near = record { sfits = omega (arith, small) }
 
-    pub minus-fits : SFits w32 (pos 0 -ℤ to_z w32 n)
-    minus-fits = rw (to_z_pos w32 {n = n} (omega (arith, small))) (less-fits n small)
+    pub minus_fits : SFits w32 (pos 0 -ℤ to_z w32 n)
+    minus_fits = rw (to_z_pos w32 {n = n} (omega (arith, small))) (less_fits n small)
 
-    pub minus_is : Number (to_z w32 (of_z w32 (pos 0 -ℤ to_z w32 n))) ≡ readIn (number w)
+    pub minus_is : Number (to_z w32 (of_z w32 (pos 0 -ℤ to_z w32 n))) ≡ read_in (number w)
     minus_is =
-        ap Number (to_z-of_z minus-fits ∙ ap (λ (z : ℤ). pos 0 -ℤ z) (to_z_pos w32 {n = n} (omega (arith, small)))) ∙ read_below (number w) n e
+        ap Number (to_z-of_z minus_fits ∙ ap (λ (z : ℤ). pos 0 -ℤ z) (to_z_pos w32 {n = n} (omega (arith, small)))) ∙ read_below (number w) n e

@@ -9,19 +9,19 @@ use Rattle.season.specs.declared.reading.Weather.{Weather}
 use Rattle.season.specs.declared.reading.Weather.TheVariants.{Days, Bad, CutOff, TooMany}
 
 -- a word's meaning as the code gives it
-unfoldable pub readIn : Word → Read
-readIn (good z) = Number z
-readIn bad = NoNumber
+unfoldable pub read_in : Word → Read
+read_in (good z) = Number z
+read_in bad = NoNumber
 
 -- so many numbers, where the list holds `room`: a day that is cut off is told before a list that is too short
-unfoldable pub daysIn : ℕ → ℕ → Weather
-daysIn n room = cond (not (eqb (n % 7) 0)) (CutOff n) (cond (ltb room n) (TooMany n) (Days (n / 7)))
+unfoldable pub days_in : ℕ → ℕ → Weather
+days_in n room = cond (not (eqb (n % 7) 0)) (CutOff n) (cond (ltb room n) (TooMany n) (Days (n / 7)))
 
 -- a bad word is told before them both
-unfoldable pub weatherIn : Reading → ℕ → Weather
-weatherIn r room = let n = length r.numbers in cond (not r.whole) (Bad n) (daysIn n room)
+unfoldable pub weather_in : Reading → ℕ → Weather
+weather_in r room = let n = length r.numbers in cond (not r.whole) (Bad n) (days_in n room)
 
 -- the numbers stand at the front of the list, cut at its end (`sets` past the end changes nothing), and the others are as lent
 pub record ReadDays (text : List ℕ) (before after : List ℤ) (r : Weather) : Type 0 where
-  pub answer : r ≡ weatherIn (reading text) (length before)
+  pub answer : r ≡ weather_in (reading text) (length before)
   pub numbers : after ≡ sets before 0 (reading text).numbers

@@ -1,4 +1,6 @@
 // A period's weather read out of a text into a list of numbers, seven for each day, and the lines that `balance` prints for its days.
+#![tactic(auto)]
+
 mod reading;
 mod writing;
 

@@ -1,12 +1,12 @@
 // A period's weather out of a text: its numbers, seven for each day, read word by word into a lent list.
 ghost use Rattle.std.specs.Prelude.{◌≡◌, set};
 ghost use Rattle.words.specs.Numbers.{number as number_of};
-ghost use Rattle.season.specs.Reading.{readIn, daysIn, ReadDays};
+ghost use Rattle.season.specs.Reading.{read_in, days_in, ReadDays};
 
 use daybook::DAY_NUMBERS;
 use words::{Meaning, next_word, number};
 
-#[derive(Drop)]
+#[derive(Clone, Copy)]
 pub enum Weather {
     // So many days, of seven numbers each.
     Days(usize),
@@ -18,14 +18,14 @@ pub enum Weather {
 }
 
 // A word: its number, or none.
-#[derive(Drop)]
+#[derive(Clone, Copy)]
 enum Read {
     Number(i32),
     Bad,
 }
 
 fn read_word(word: &[u8]) -> Read
-    ensures { result ≡ readIn (number_of word.now) }
+    ensures { result ≡ read_in (number_of word.now) }
 {
     match number(word) {
         Meaning::Plain(n) => Read::Number(n as i32),
@@ -45,7 +45,7 @@ fn store(days: &mut [i32], place: usize, number: i32)
 
 // What so many numbers are, where the list holds so many.
 fn days_in(count: usize, room: usize) -> Weather
-    ensures { result ≡ daysIn count room }
+    ensures { result ≡ days_in count room }
 {
     if count % DAY_NUMBERS != 0 {
         return Weather::CutOff(count);

@@ -1,7 +1,7 @@
 // The days of a period as the lines that `balance` prints for them, written into a lent buffer as far as that goes.
 ghost use Rattle.std.specs.Prelude.{◌≡◌, min};
 ghost use Rattle.words.specs.Writing.{Put};
-ghost use Rattle.season.specs.Lines.{dayLines, lines_of};
+ghost use Rattle.season.specs.Lines.{day_lines, lines_of};
 
 use daybook::{DAY_NUMBERS, day_at, totals_at};
 use lines::{ended, line, units};
@@ -17,7 +17,7 @@ fn fewer(a: usize, b: usize) -> usize
 
 // The lines of the first days, so many.
 fn put_days(days: &[i32], totals: &[u64], count: usize, output: &mut [u8]) -> usize
-    ensures { Put 0 (dayLines days.now totals.now count) output.old output.new result }
+    ensures { Put 0 (day_lines days.now totals.now count) output.old output.new result }
 {
     let mut next = 0;
     let mut k = 0;

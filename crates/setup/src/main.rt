@@ -1,5 +1,7 @@
 // The program `setup`: the mapping desk's files, which its arguments name, as the text that `balance` reads, by `desk::setup_text`. Where something is wrong
 // nothing is printed, and a line on standard error says what.
+#![tactic(auto)]
+
 ghost use Rattle.std.specs.Prelude.{◌≡◌, length};
 
 mod files;

@@ -10,5 +10,5 @@ use Rattle.io.specs.Counts.{IsPrefixLen}
 pub counted : (n : ℕ) (bytes : List ℕ) → n ≤ length bytes → IsPrefixLen n bytes
 counted n bytes h = (h, sym (length-take-le n bytes h))
 
-pub none-counted : (n : ℕ) (bytes : List ℕ) → n ≡ 0 → IsPrefixLen n bytes
-none-counted n bytes e = rw e (omega arith, refl)
+pub none_counted : (n : ℕ) (bytes : List ℕ) → n ≡ 0 → IsPrefixLen n bytes
+none_counted n bytes e = rw e (omega arith, refl)

@@ -6,7 +6,7 @@ use crate::saying::say_longer;
 use intake::Input;
 
 // How many bytes stand at the front of the lent buffer. Where the file is not whole, what is wrong with it was said.
-#[derive(Drop)]
+#[derive(Clone, Copy)]
 pub(crate) struct Found {
     pub(crate) whole: bool,
     pub(crate) count: usize,

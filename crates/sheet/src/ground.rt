@@ -10,7 +10,7 @@ use grids::{Header, read_grid};
 use records::MOST_CELLS;
 
 // How many bytes of the lent text are the setup's, and the grids' header. 0 bytes: something is wrong, and was said.
-#[derive(Drop)]
+#[derive(Clone, Copy)]
 pub(crate) struct Ground {
     pub(crate) count: usize,
     pub(crate) header: Header,
@@ -35,7 +35,7 @@ const COVERS_FROM: usize = 1048580;
 const COVERS_TO: usize = 1114117;
 
 // How many bytes each file has.
-#[derive(Drop)]
+#[derive(Clone, Copy)]
 struct Lengths {
     whole: bool,
     direction: usize,

@@ -1,5 +1,6 @@
 // The program `sheet`: a folder's grids, covers and weather as a recharge sheet, ten files in the folder `sheet` inside it. Where something is wrong a line on
 // standard error says what, and no file is changed; else the sheet for a person is printed.
+#![tactic(auto)]
 
 mod files;
 mod ground;

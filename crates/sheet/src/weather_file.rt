@@ -9,7 +9,7 @@ use recharge::period;
 use records::{Climate, Grid, Verdict};
 use season::{Weather, read_days};
 
-#[derive(Drop)]
+#[derive(Clone, Copy)]
 pub(crate) enum Worked {
     // So many days, all of them accepted.
     Days(usize),

@@ -6,7 +6,7 @@ use crate::saying::say_of;
 use crate::texts::ENDS;
 
 // The folder in the folder.
-#[derive(Drop)]
+#[derive(Clone, Copy)]
 enum Folder {
     // This run has made it.
     Made,

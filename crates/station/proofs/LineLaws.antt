@@ -11,25 +11,25 @@ use lib.ListN.{length, get_or}
 use lib.Seq.{get_or-take, length-sets}
 use borrow.Author.Tests.{lt-ltb, le-ltb, ne_eqb}
 use Rattle.theory.proofs.Cases.{below_or_not}
-use Rattle.paper.specs.Radiation.{whole, turc, jensenHaise}
-use Rattle.lines.specs.Reading.{Reading, mostNumbers, negatives, given, codes, signed, formIn, Read}
+use Rattle.paper.specs.Radiation.{whole, turc, jensen_haise}
+use Rattle.lines.specs.Reading.{Reading, most_numbers, negatives, given, codes, signed, form_in, Read}
 use Rattle.lines.specs.declared.reading.Form.{Form}
 use Rattle.lines.specs.declared.reading.Form.TheVariants.{Whole, Broken}
-use Rattle.lines.proofs.ReadingLaws.{front, codes-back}
-use Rattle.station.specs.Readings.{Line, estimate, malformed, reading_of, celsiusOf, turcLine, jensenHaiseLine, isKind, line_of, lineIn}
+use Rattle.lines.proofs.ReadingLaws.{front, codes_back}
+use Rattle.station.specs.Readings.{Line, estimate, malformed, reading_of, celsius_of, turc_line, jensen_haise_line, is_kind, line_of, line_in}
 
 -- a number's reading, below zero and not
-pub reading-below : (c : ℕ) → negatives < c → neg (whole (c - negatives)) ≡ reading_of (signed c)
+pub reading_below : (c : ℕ) → negatives < c → neg (whole (c - negatives)) ≡ reading_of (signed c)
 unfolding reading_of signed
-reading-below c h = rw (lt-ltb negatives c h) (ap (λ (n : ℕ). neg (whole n)) (omega arith))
+reading_below c h = rw (lt-ltb negatives c h) (ap (λ (n : ℕ). neg (whole n)) (omega arith))
 
-pub reading-plain : (c : ℕ) → c ≤ negatives → whole c ≡ reading_of (signed c)
+pub reading_plain : (c : ℕ) → c ≤ negatives → whole c ≡ reading_of (signed c)
 unfolding reading_of signed
-reading-plain c h = rw (le-ltb negatives c h) refl
+reading_plain c h = rw (le-ltb negatives c h) refl
 
-kind-is : (kind c : ℕ) → kind ≤ negatives → isKind kind (signed c) ≡ eqb c kind
-unfolding isKind signed
-kind-is kind c h =
+kind_is : (kind c : ℕ) → kind ≤ negatives → is_kind kind (signed c) ≡ eqb c kind
+unfolding is_kind signed
+kind_is kind c h =
     below_or_not negatives c (λ more. rw (lt-ltb negatives c more) (sym (ne_eqb c kind (λ e. omega arith))))
     (λ less. rw (le-ltb negatives c less) refl)
 
@@ -44,8 +44,8 @@ module _ (ns : List ℕ) where
 
   abbrev pub tested : ℕ → Line
   tested count =
-      cond (eqb count 4 && eqb (get_or ns 0 0) 1) (turcLine (number 1) (number 2) (number 3))
-      (cond (eqb count 3 && eqb (get_or ns 0 0) 2) (jensenHaiseLine (number 1) (number 2)) malformed)
+      cond (eqb count 4 && eqb (get_or ns 0 0) 1) (turc_line (number 1) (number 2) (number 3))
+      (cond (eqb count 3 && eqb (get_or ns 0 0) 2) (jensen_haise_line (number 1) (number 2)) malformed)
 
   by_tests : (zs : List ℤ) → Coded zs ns → line_of zs ≡ tested (length zs)
   unfolding line_of
@@ -53,57 +53,57 @@ module _ (ns : List ℕ) where
   by_tests (kind ∷ []) at = refl
   by_tests (kind ∷ t ∷ []) at = refl
   by_tests (kind ∷ t ∷ r ∷ []) at =
-      rw (← at 0 (omega arith), ← at 1 (omega arith), ← at 2 (omega arith), kind-is 2 (get_or ns 0 0) (omega arith)) refl
+      rw (← at 0 (omega arith), ← at 1 (omega arith), ← at 2 (omega arith), kind_is 2 (get_or ns 0 0) (omega arith)) refl
   by_tests (kind ∷ t ∷ r ∷ h ∷ []) at =
-      rw (← at 0 (omega arith), ← at 1 (omega arith), ← at 2 (omega arith), ← at 3 (omega arith), kind-is 1 (get_or ns 0 0) (omega arith))
+      rw (← at 0 (omega arith), ← at 1 (omega arith), ← at 2 (omega arith), ← at 3 (omega arith), kind_is 1 (get_or ns 0 0) (omega arith))
       refl
   by_tests (kind ∷ t ∷ r ∷ h ∷ more ∷ zs) at =
       let count = suc (suc (suc (suc (suc (length zs))))) in
       rw (ne_eqb count 4 (λ e. omega arith), ne_eqb count 3 (λ e. omega arith)) refl
 
 -- a line out of its parts
-pub turc-line :
-    (t r h : ℤ) {mean radiation humidity : Float} → mean ≡ celsiusOf t → radiation ≡ reading_of r → humidity ≡ reading_of h
-    → estimate (record { mean = mean; estimate = turc radiation humidity }) ≡ turcLine t r h
-turc-line t r h a b c = λ k. estimate (record { mean = a k; estimate = turc (b k) (c k) })
+pub turc_line_lem :
+    (t r h : ℤ) {mean radiation humidity : Float} → mean ≡ celsius_of t → radiation ≡ reading_of r → humidity ≡ reading_of h
+    → estimate (record { mean = mean; estimate = turc radiation humidity }) ≡ turc_line t r h
+turc_line_lem t r h a b c = λ k. estimate (record { mean = a k; estimate = turc (b k) (c k) })
 
-pub jensen-haise-line :
-    (t r : ℤ) {mean radiation : Float} → mean ≡ celsiusOf t → radiation ≡ reading_of r
-    → estimate (record { mean = mean; estimate = jensenHaise radiation }) ≡ jensenHaiseLine t r
-jensen-haise-line t r a b = λ k. estimate (record { mean = a k; estimate = jensenHaise (b k) })
+pub jensen_haise_line_lem :
+    (t r : ℤ) {mean radiation : Float} → mean ≡ celsius_of t → radiation ≡ reading_of r
+    → estimate (record { mean = mean; estimate = jensen_haise radiation }) ≡ jensen_haise_line t r
+jensen_haise_line_lem t r a b = λ k. estimate (record { mean = a k; estimate = jensen_haise (b k) })
 
 -- by the form of what was read
-form-whole : (all : Reading) (count : ℕ) → formIn all.whole (length all.numbers) ≡ Whole count → (all.whole ≡ true) × (length all.numbers ≡ count)
-unfolding formIn
-form-whole all count e = go all.whole e
+form_whole : (all : Reading) (count : ℕ) → form_in all.whole (length all.numbers) ≡ Whole count → (all.whole ≡ true) × (length all.numbers ≡ count)
+unfolding form_in
+form_whole all count e = go all.whole e
   where
-    go : (whole : Bool) → formIn whole (length all.numbers) ≡ Whole count → (whole ≡ true) × (length all.numbers ≡ count)
+    go : (whole : Bool) → form_in whole (length all.numbers) ≡ Whole count → (whole ≡ true) × (length all.numbers ≡ count)
     go true e = (refl, cc)
     go false e = absurd (let z : ◌≡◌ {A = ℕ} 0 1 = cc in omega arith)
 
-form-broken : (all : Reading) (count : ℕ) → formIn all.whole (length all.numbers) ≡ Broken count → all.whole ≡ false
-unfolding formIn
-form-broken all count e = go all.whole e
+form_broken : (all : Reading) (count : ℕ) → form_in all.whole (length all.numbers) ≡ Broken count → all.whole ≡ false
+unfolding form_in
+form_broken all count e = go all.whole e
   where
-    go : (whole : Bool) → formIn whole (length all.numbers) ≡ Broken count → whole ≡ false
+    go : (whole : Bool) → form_in whole (length all.numbers) ≡ Broken count → whole ≡ false
     go true e = absurd (let z : ◌≡◌ {A = ℕ} 0 1 = cc in omega arith)
     go false e = refl
 
 -- what a read of a line says of it
-module _ (line before ns : List ℕ) (form : Form) (count : ℕ) (long : length before ≡ mostNumbers) (read : Read (given line) before ns form) where
-  pub read_length : length ns ≡ mostNumbers
+module _ (line before ns : List ℕ) (form : Form) (count : ℕ) (long : length before ≡ most_numbers) (read : Read (given line) before ns form) where
+  pub read_length : length ns ≡ most_numbers
   read_length = ap length read.numbers ∙ length-sets before 0 (codes (given line).numbers) ∙ long
 
-  pub line-broken : form ≡ Broken count → malformed ≡ lineIn (given line)
-  unfolding lineIn
-  line-broken e = rw (form-broken (given line) count (sym read.form ∙ e)) refl
+  pub line_broken : form ≡ Broken count → malformed ≡ line_in (given line)
+  unfolding line_in
+  line_broken e = rw (form_broken (given line) count (sym read.form ∙ e)) refl
 
-  pub line-whole : form ≡ Whole count → tested ns count ≡ lineIn (given line)
-  unfolding lineIn
-  line-whole e =
+  pub line_whole : form ≡ Whole count → tested ns count ≡ line_in (given line)
+  unfolding line_in
+  line_whole e =
       let zs = (given line).numbers in
-      let is = form-whole (given line) count (sym read.form ∙ e) in
+      let is = form_whole (given line) count (sym read.form ∙ e) in
       let coded : Coded zs ns = λ k h.
       ap signed (sym (get_or-take (length zs) ns k 0 h) ∙ ap (λ (l : List ℕ). get_or l k 0) (front (given line) before ns form long read))
-      ∙ codes-back line k in
+      ∙ codes_back line k in
       rw (is.0, ← is.1) (sym (by_tests ns zs coded))

@@ -2,10 +2,10 @@
 ghost use Rattle.std.specs.Prelude.{◌≤◌, length};
 ghost use Rattle.words.specs.Words.{lines_of};
 ghost use Rattle.words.specs.Writing.{Put, Wrote};
-ghost use Rattle.lines.specs.Reading.{mostBytes};
-ghost use Rattle.radiation.specs.Estimates.{potentialAs};
-ghost use Rattle.station.specs.Readings.{lineAs};
-ghost use Rattle.station.specs.Answers.{estimateLine, answerTo, answers, answered, mostAnswers};
+ghost use Rattle.lines.specs.Reading.{most_bytes};
+ghost use Rattle.radiation.specs.Estimates.{potential_as};
+ghost use Rattle.station.specs.Readings.{line_as};
+ghost use Rattle.station.specs.Answers.{estimate_line, answer_to, answers, answered, most_answers};
 
 use crate::readings::{Line, read_line};
 use lines::{BAD_TEXT, MOST_BYTES, MOST_NUMBERS, refused};
@@ -18,7 +18,7 @@ pub const MOST_ANSWERS: usize = 1310720;
 
 // The estimate, or its refusal at the line.
 fn tell(buffer: &mut [u8], at: usize, line: u64, potential: Potential) -> usize
-    ensures { Put at (estimateLine line (potentialAs potential)) buffer.old buffer.new result }
+    ensures { Put at (estimate_line line (potential_as potential)) buffer.old buffer.new result }
 {
     match potential {
         Potential::Estimated(depth) => put_item(buffer, at, depth.0, b'\n'),
@@ -27,7 +27,7 @@ fn tell(buffer: &mut [u8], at: usize, line: u64, potential: Potential) -> usize
 }
 
 fn answer(buffer: &mut [u8], at: usize, number: u64, line: Line) -> usize
-    ensures { Put at (answerTo number (lineAs line)) buffer.old buffer.new result }
+    ensures { Put at (answer_to number (line_as line)) buffer.old buffer.new result }
 {
     match line {
         Line::Estimate(weather) => tell(buffer, at, number, radiation::potential(weather)),
@@ -37,8 +37,8 @@ fn answer(buffer: &mut [u8], at: usize, number: u64, line: Line) -> usize
 
 // Line after line, each answered after those before it.
 fn answer_lines(input: &[u8], output: &mut [u8]) -> usize
-    requires { length input.now ≤ mostBytes }
-    ensures { Wrote mostAnswers 0 (answers 1 (lines_of input.now)) output.old output.new result }
+    requires { length input.now ≤ most_bytes }
+    ensures { Wrote most_answers 0 (answers 1 (lines_of input.now)) output.old output.new result }
 {
     let mut numbers = [0u32; MOST_NUMBERS];
     let mut at = 0;
@@ -56,7 +56,7 @@ fn answer_lines(input: &[u8], output: &mut [u8]) -> usize
 
 // What the program `potential` prints for a text of readings, written from the front of a lent buffer as far as that goes; and the count of its bytes.
 pub fn potential_text(input: &[u8], output: &mut [u8]) -> usize
-    ensures { Wrote mostAnswers 0 (answered input.now) output.old output.new result }
+    ensures { Wrote most_answers 0 (answered input.now) output.old output.new result }
 {
     if MOST_BYTES < input.len() {
         return refused(output, 0, BAD_TEXT, 0);

@@ -1,12 +1,12 @@
 // A line of readings as a day's weather.
 ghost use Rattle.std.specs.Prelude.{◌≡◌, length};
-ghost use Rattle.lines.specs.Reading.{given, signed, mostNumbers};
-ghost use Rattle.station.specs.Readings.{reading_of, celsiusOf, lineIn, lineAs};
+ghost use Rattle.lines.specs.Reading.{given, signed, most_numbers};
+ghost use Rattle.station.specs.Readings.{reading_of, celsius_of, line_in, line_as};
 
 use lines::{Form, MOST_NUMBERS, NEGATIVES, read};
 use radiation::{Estimate, Weather};
 
-#[derive(Drop)]
+#[derive(Clone, Copy)]
 pub(crate) enum Line {
     Estimate(Weather),
     // Not the numbers of an estimate.
@@ -36,15 +36,15 @@ fn reading(code: u32) -> f64
 }
 
 fn celsius(tenths: u32) -> f64
-    ensures { result ≡ celsiusOf (signed tenths) }
+    ensures { result ≡ celsius_of (signed tenths) }
 {
     reading(tenths) / TENTHS
 }
 
 // The numbers go into a lent array, which is for nothing else.
 pub(crate) fn read_line(line: &[u8], numbers: &mut [u32; MOST_NUMBERS]) -> Line
-    requires { length numbers.old ≡ mostNumbers }
-    ensures { (lineAs result ≡ lineIn (given line.now)) × (length numbers.new ≡ mostNumbers) }
+    requires { length numbers.old ≡ most_numbers }
+    ensures { (line_as result ≡ line_in (given line.now)) × (length numbers.new ≡ most_numbers) }
 {
     let Form::Whole(count) = read(line, numbers) else {
         return Line::Malformed;

@@ -9,141 +9,141 @@ use native.Mathlib.Omega.{arith}
 use lib.Dec.{leb, ltb}
 use lib.ListN.{length, get_or}
 use borrow.Author.Tests.{le-leb, le-ltb, lt-ltb, leb-true, eq-eqb, not-false}
-use Rattle.theory.specs.Lists.{madeOver}
+use Rattle.theory.specs.Lists.{made_over}
 use Rattle.theory.specs.Lowest.{Found}
 use Rattle.theory.specs.Sums.{given}
-use Rattle.theory.proofs.Cases.{byCases, below_or_not, cond-true, cond-false, and_left, and_right, and_both}
-use Rattle.theory.proofs.LowestLaws.{lowest-cong}
-use Rattle.paper.specs.Limits.{mostSnow}
+use Rattle.theory.proofs.Cases.{by_cases, below_or_not, cond_true, cond_false, and_left, and_right, and_both}
+use Rattle.theory.proofs.LowestLaws.{lowest_cong}
+use Rattle.paper.specs.Limits.{most_snow}
 use Rattle.paper.specs.Interception.{net}
-use Rattle.paper.specs.Setup.{Setup, Cell, cell, cells, gridFits, next}
-use Rattle.paper.specs.State.{State, storesFit, mostSoilOf, mostSnowOf, soilAt, snowAt, memoryFits, pastFits}
-use Rattle.paper.specs.CellDay.{Today, figureOf, netOf, store_of}
-use Rattle.paper.specs.Refusals.{Refusal, Test, accepted, judged, verdict, stateAt, snowfall, oneEach, stateFits, tooDeep}
-use Rattle.paper.specs.Day.{checkOf}
+use Rattle.paper.specs.Setup.{Setup, Cell, cell, cells, grid_fits, next}
+use Rattle.paper.specs.State.{State, stores_fit, most_soil_of, most_snow_of, soil_at, snow_at, memory_fits, past_fits}
+use Rattle.paper.specs.CellDay.{Today, figure_of, net_of, store_of}
+use Rattle.paper.specs.Refusals.{Refusal, Test, accepted, judged, verdict, state_at, snowfall, one_each, state_fits, too_deep}
+use Rattle.paper.specs.Day.{check_of}
 use Rattle.paper.proofs.SetupLaws.{Charted}
-use Rattle.paper.proofs.RefusalLaws.{Passes, testAt, accepted-passes}
+use Rattle.paper.proofs.RefusalLaws.{Passes, test_at, accepted_passes}
 use Rattle.covers.specs.Table.{EntriesFit}
-use Rattle.covers.specs.Slots.{open_at, seasonAt, cellFrom}
+use Rattle.covers.specs.Slots.{open_at, season_at, cell_from}
 use Rattle.survey.specs.Charts.{slot_of, SlotsFit}
-use Rattle.survey.proofs.CellLaws.{cell-is}
-use Rattle.survey.proofs.MapLaws.{sound-setup, waters-each, slot-at, slots-fit}
-use Rattle.stores.specs.States.{storesFrom, storesAt, stateTests}
-use Rattle.stores.specs.Snowfall.{Falls, fallBy, deepBy, snowTests}
-use Rattle.stores.proofs.StateLaws.{test-nine}
+use Rattle.survey.proofs.CellLaws.{cell_is}
+use Rattle.survey.proofs.MapLaws.{sound_setup, waters_each, slot_at_lem, slots_fit}
+use Rattle.stores.specs.States.{stores_from, stores_at, state_tests}
+use Rattle.stores.specs.Snowfall.{Falls, fall_by, deep_by, snow_tests}
+use Rattle.stores.proofs.StateLaws.{test_nine}
 
 -- a setup that passed tests 1 to 6, with its slots, over whatever the array held, and a store an entry a cell
 pub record Testable (s : Setup) (st : State) (slots : List ℕ) : Type 0 where
-  pub passed : checkOf s ≡ accepted
+  pub passed : check_of s ≡ accepted
   pub lent : List ℕ
-  pub slots-are : slots ≡ madeOver (cells s) (slot_of s) lent
-  pub slots-sized : length slots ≡ 4096
+  pub slots_are : slots ≡ made_over (cells s) (slot_of s) lent
+  pub slots_sized : length slots ≡ 4096
   pub soils : length st.soil ≡ cells s
   pub snows : length st.snow ≡ cells s
 
 -- the paper's tests 9 and 10
 abbrev pub ninth : Setup → State → Test
-ninth s st = record { places = suc (cells s); fails = λ i. not (stateFits s st i); called = stateAt }
+ninth s st = record { places = suc (cells s); fails = λ i. not (state_fits s st i); called = state_at }
 
 abbrev pub tenth : Setup → State → Today → Test
-tenth s st t = record { places = cells s; fails = λ i. tooDeep (cell s i) t (snowAt st i); called = snowfall }
+tenth s st t = record { places = cells s; fails = λ i. too_deep (cell s i) t (snow_at st i); called = snowfall }
 
 -- a state that passes test 9 has a memory within its limits
-pub memory_kept : (s : Setup) (st : State) → verdict (ninth s st ∷ []) ≡ accepted → memoryFits st.past.memory ≡ true
-unfolding Passes testAt stateFits pastFits
+pub memory_kept : (s : Setup) (st : State) → verdict (ninth s st ∷ []) ≡ accepted → memory_fits st.past.memory ≡ true
+unfolding Passes test_at state_fits past_fits
 memory_kept s st v =
-    let stands : stateFits s st (cells s) ≡ true = not-false _ (accepted-passes (ninth s st ∷ []) v 0 (zero-lt-suc 0) (cells s) (lt-suc_self (cells s))) in
-    and_left _ _ (and_left _ _ (sym (cond-false (ltb (cells s) (cells s)) (le-ltb (cells s) (cells s) (le_refl (cells s))) _ _) ∙ stands))
+    let stands : state_fits s st (cells s) ≡ true = not-false _ (accepted_passes (ninth s st ∷ []) v 0 (zero-lt-suc 0) (cells s) (lt-suc_self (cells s))) in
+    and_left _ _ (and_left _ _ (sym (cond_false (ltb (cells s) (cells s)) (le-ltb (cells s) (cells s) (le_refl (cells s))) _ _) ∙ stands))
 
 -- two tests of the same places that fail alike
 alike : (n : ℕ) (f g : ℕ → Bool) (called : ℕ → Refusal) → ((i : ℕ) → i < n → f i ≡ g i)
     → verdict (record { places = n; fails = f; called = called } ∷ []) ≡ verdict (record { places = n; fails = g; called = called } ∷ [])
 unfolding verdict
-alike n f g called same = ap (λ (x : Found). judged x called accepted) (lowest-cong n f g same)
+alike n f g called same = ap (λ (x : Found). judged x called accepted) (lowest_cong n f g same)
 
 -- any way serves
-stores-any : (covers : List ℕ) (slot available way soil snow : ℕ)
-    → storesFrom covers slot available soil snow
-    ≡ (leb soil (mostSoilOf (cellFrom covers slot available way)) && leb snow (mostSnowOf (cellFrom covers slot available way)))
-unfolding storesFrom mostSoilOf mostSnowOf cellFrom
-stores-any covers slot available way soil snow = refl
+stores_any : (covers : List ℕ) (slot available way soil snow : ℕ)
+    → stores_from covers slot available soil snow
+    ≡ (leb soil (most_soil_of (cell_from covers slot available way)) && leb snow (most_snow_of (cell_from covers slot available way)))
+unfolding stores_from most_soil_of most_snow_of cell_from
+stores_any covers slot available way soil snow = refl
 
-deep-any : (covers : List ℕ) (slot available way : ℕ) (t : Today) (fall snow : ℕ)
-    → fall ≡ cond (open_at covers slot) 0 (given t.snows? (net t.gross (seasonAt covers slot t.growing?))) → snow ≤ mostSnow
-    → ltb mostSnow (snow + fall) ≡ tooDeep (cellFrom covers slot available way) t snow
-unfolding tooDeep store_of netOf figureOf cellFrom seasonAt
-deep-any covers slot available way t fall snow e h =
-    byCases (open_at covers slot)
-    (λ o. let none : fall ≡ 0 = e ∙ cond-true (open_at covers slot) o _ _ in rw (none, add-zero snow, o) (le-ltb mostSnow snow h))
-    (λ o. let falls = e ∙ cond-false (open_at covers slot) o _ _ in rw (falls, o) refl)
+deep_any : (covers : List ℕ) (slot available way : ℕ) (t : Today) (fall snow : ℕ)
+    → fall ≡ cond (open_at covers slot) 0 (given t.snows? (net t.gross (season_at covers slot t.growing?))) → snow ≤ most_snow
+    → ltb most_snow (snow + fall) ≡ too_deep (cell_from covers slot available way) t snow
+unfolding too_deep store_of net_of figure_of cell_from season_at
+deep_any covers slot available way t fall snow e h =
+    by_cases (open_at covers slot)
+    (λ o. let none : fall ≡ 0 = e ∙ cond_true (open_at covers slot) o _ _ in rw (none, add-zero snow, o) (le-ltb most_snow snow h))
+    (λ o. let falls = e ∙ cond_false (open_at covers slot) o _ _ in rw (falls, o) refl)
 
-snow-within : (c : Cell) (snow : ℕ) → snow ≤ mostSnowOf c → snow ≤ mostSnow
-unfolding mostSnowOf
-snow-within c snow h =
-    byCases c.open? (λ e. omega (arith, rw (cond-true c.open? e) at h)) (λ e. rw (cond-false c.open? e) at h)
+snow_within : (c : Cell) (snow : ℕ) → snow ≤ most_snow_of c → snow ≤ most_snow
+unfolding most_snow_of
+snow_within c snow h =
+    by_cases c.open? (λ e. omega (arith, rw (cond_true c.open? e) at h)) (λ e. rw (cond_false c.open? e) at h)
 
 module _ (s : Setup) (st : State) (slots : List ℕ) (ok : Testable s st slots) where
   charted : Charted s
-  charted = (sound-setup s ok.passed).charted
+  charted = (sound_setup s ok.passed).charted
 
   waters : length s.available ≡ cells s
-  waters = waters-each s ok.passed
+  waters = waters_each s ok.passed
 
-  fits : gridFits s.grid ≡ true
-  unfolding gridFits
+  fits : grid_fits s.grid ≡ true
+  unfolding grid_fits
   fits = and_both _ _ (and_both _ _ (le-leb _ _ charted.wide) (le-leb _ _ charted.high)) (le-leb _ _ charted.few)
 
-  each : oneEach (cells s) (length s.available ∷ length st.soil ∷ length st.snow ∷ []) ≡ true
-  unfolding oneEach
+  each : one_each (cells s) (length s.available ∷ length st.soil ∷ length st.snow ∷ []) ≡ true
+  unfolding one_each
   each = and_both _ _ (eq-eqb _ _ waters) (and_both _ _ (eq-eqb _ _ ok.soils) (and_both _ _ (eq-eqb _ _ ok.snows) refl))
 
   slotted : SlotsFit s.covers (cells s) slots s.available
-  slotted = slots-fit s charted ok.lent slots ok.slots-are ok.slots-sized waters
+  slotted = slots_fit s charted ok.lent slots ok.slots_are ok.slots_sized waters
 
   pub table : EntriesFit s.covers
   table = slotted.table
 
-  cell-of : (i : ℕ) → i < cells s → cellFrom s.covers (get_or slots i 0) (get_or s.available i 0) (next s i) ≡ cell s i
-  cell-of i h = rw (slot-at s charted ok.lent slots ok.slots-are ok.slots-sized waters i h) (sym (cell-is s charted i h))
+  cell_of : (i : ℕ) → i < cells s → cell_from s.covers (get_or slots i 0) (get_or s.available i 0) (next s i) ≡ cell s i
+  cell_of i h = rw (slot_at_lem s charted ok.lent slots ok.slots_are ok.slots_sized waters i h) (sym (cell_is s charted i h))
 
-  stores_same : (i : ℕ) → i < cells s → storesAt s.covers slots s.available st.soil st.snow i ≡ storesFit s st i
-  unfolding storesAt storesFit
+  stores_same : (i : ℕ) → i < cells s → stores_at s.covers slots s.available st.soil st.snow i ≡ stores_fit s st i
+  unfolding stores_at stores_fit
   stores_same i h =
-      stores-any s.covers (get_or slots i 0) (get_or s.available i 0) (next s i) (soilAt st i) (snowAt st i)
-      ∙ ap (λ (c : Cell). leb (soilAt st i) (mostSoilOf c) && leb (snowAt st i) (mostSnowOf c)) (cell-of i h)
+      stores_any s.covers (get_or slots i 0) (get_or s.available i 0) (next s i) (soil_at st i) (snow_at st i)
+      ∙ ap (λ (c : Cell). leb (soil_at st i) (most_soil_of c) && leb (snow_at st i) (most_snow_of c)) (cell_of i h)
 
-  state-same : (i : ℕ)
-      → cond (ltb i (cells s)) (storesAt s.covers slots s.available st.soil st.snow i) (pastFits st.past) ≡ stateFits s st i
-  unfolding stateFits
-  state-same i =
+  state_same : (i : ℕ)
+      → cond (ltb i (cells s)) (stores_at s.covers slots s.available st.soil st.snow i) (past_fits st.past) ≡ state_fits s st i
+  unfolding state_fits
+  state_same i =
       below_or_not i (cells s)
       (λ h. rw (lt-ltb i (cells s) h) (stores_same i h))
       (λ h. rw (le-ltb i (cells s) h) refl)
 
   -- test 9 by slots is the paper's
-  pub state-paper : verdict (stateTests s.grid s.covers slots s.available st.soil st.snow st.past) ≡ verdict (ninth s st ∷ [])
-  state-paper =
-      test-nine s.grid s.covers slots s.available st.soil st.snow st.past fits each
-      ∙ alike (suc (cells s)) _ _ stateAt (λ i h. ap not (state-same i))
+  pub state_paper : verdict (state_tests s.grid s.covers slots s.available st.soil st.snow st.past) ≡ verdict (ninth s st ∷ [])
+  state_paper =
+      test_nine s.grid s.covers slots s.available st.soil st.snow st.past fits each
+      ∙ alike (suc (cells s)) _ _ state_at (λ i h. ap not (state_same i))
 
-  module _ (kept : verdict (stateTests s.grid s.covers slots s.available st.soil st.snow st.past) ≡ accepted) where
-    lying : (i : ℕ) → i < cells s → snowAt st i ≤ mostSnow
-    unfolding Passes testAt stateFits storesFit
+  module _ (kept : verdict (state_tests s.grid s.covers slots s.available st.soil st.snow st.past) ≡ accepted) where
+    lying : (i : ℕ) → i < cells s → snow_at st i ≤ most_snow
+    unfolding Passes test_at state_fits stores_fit
     lying i h =
-        let stands : stateFits s st i ≡ true
-        = not-false _ (accepted-passes (ninth s st ∷ []) (sym state-paper ∙ kept) 0 (zero-lt-suc 0) i (le_step h)) in
-        let stores = sym (cond-true (ltb i (cells s)) (lt-ltb i (cells s) h) _ _) ∙ stands in
-        snow-within (cell s i) (snowAt st i) (leb-true _ _ (and_right (leb (soilAt st i) (mostSoilOf (cell s i))) _ stores))
+        let stands : state_fits s st i ≡ true
+        = not-false _ (accepted_passes (ninth s st ∷ []) (sym state_paper ∙ kept) 0 (zero-lt-suc 0) i (le_step h)) in
+        let stores = sym (cond_true (ltb i (cells s)) (lt-ltb i (cells s) h) _ _) ∙ stands in
+        snow_within (cell s i) (snow_at st i) (leb-true _ _ (and_right (leb (soil_at st i) (most_soil_of (cell s i))) _ stores))
 
     -- and so is test 10, where the array has the day's snowfalls and test 9 passed
-    pub snow-paper : (plots : List ℕ) (t : Today) → Falls s.covers plots t
-        → verdict (snowTests plots slots st.snow) ≡ verdict (tenth s st t ∷ [])
-    unfolding snowTests deepBy
-    snow-paper plots t falls =
+    pub snow_paper : (plots : List ℕ) (t : Today) → Falls s.covers plots t
+        → verdict (snow_tests plots slots st.snow) ≡ verdict (tenth s st t ∷ [])
+    unfolding snow_tests deep_by
+    snow_paper plots t falls =
         let few : cells s ≤ 4096 = charted.few in
         let all : min (length st.snow) 4096 ≡ cells s = omega (arith, ok.snows) in
-        ap (λ (n : ℕ). verdict (record { places = n; fails = deepBy plots slots st.snow; called = snowfall } ∷ [])) all
+        ap (λ (n : ℕ). verdict (record { places = n; fails = deep_by plots slots st.snow; called = snowfall } ∷ [])) all
         ∙ alike (cells s) _ _ snowfall
-        (λ i h. deep-any s.covers (get_or slots i 0) (get_or s.available i 0) (next s i) t (fallBy plots (get_or slots i 0)) (snowAt st i)
+        (λ i h. deep_any s.covers (get_or slots i 0) (get_or s.available i 0) (next s i) t (fall_by plots (get_or slots i 0)) (snow_at st i)
         (falls.each (get_or slots i 0) (slotted.slotted i h)) (lying i h)
-        ∙ ap (λ (c : Cell). tooDeep c t (snowAt st i)) (cell-of i h))
+        ∙ ap (λ (c : Cell). too_deep c t (snow_at st i)) (cell_of i h))

@@ -1,10 +1,10 @@
 // A fresh state.
 ghost use Rattle.std.specs.Prelude.{◌≡◌, length};
-ghost use Rattle.paper.specs.State.{noPast};
+ghost use Rattle.paper.specs.State.{no_past};
 ghost use Rattle.paper.specs.Day.{fresh_of};
-ghost use Rattle.records.specs.Answers.{freshAs};
-ghost use Rattle.records.specs.Grids.{setupAs};
-ghost use Rattle.records.specs.Past.{pastAs};
+ghost use Rattle.records.specs.Answers.{fresh_as};
+ghost use Rattle.records.specs.Grids.{setup_as};
+ghost use Rattle.records.specs.Past.{past_as};
 ghost use Rattle.survey.specs.Charts.{SlotsFit};
 ghost use Rattle.stores.specs.Fresh.{Filled};
 
@@ -14,7 +14,7 @@ use survey::survey;
 
 // No rain yet, no serial and no frost.
 fn begin(verdict: Verdict) -> Start
-    ensures { (result.verdict ≡ verdict) × (pastAs result.past ≡ noPast) }
+    ensures { (result.verdict ≡ verdict) × (past_as result.past ≡ no_past) }
 {
     let past = Past::none();
     Start { verdict, past }
@@ -53,8 +53,8 @@ pub fn fresh(
     soil: &mut [u32],
     snow: &mut [u32],
 ) -> Start
-    ensures { freshAs result soil.new snow.new ≡ fresh_of
-        (setupAs grid climate covers.now direction.now cover.now group.now available.now)
+    ensures { fresh_as result soil.new snow.new ≡ fresh_of
+        (setup_as grid climate covers.now direction.now cover.now group.now available.now)
         soil.old snow.old }
 {
     if !grid.fits() {

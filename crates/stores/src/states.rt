@@ -2,14 +2,14 @@
 ghost use Rattle.std.specs.Prelude.{cond, not, ◌≡◌, ◌≤◌, ◌<◌, leb, length};
 ghost use Rattle.theory.specs.Lists.{made};
 ghost use Rattle.theory.specs.Lowest.{lowest};
-ghost use Rattle.paper.specs.Limits.{mostSnow};
+ghost use Rattle.paper.specs.Limits.{most_snow};
 ghost use Rattle.paper.specs.Refusals.{verdict};
-ghost use Rattle.records.specs.Grids.{gridAs};
-ghost use Rattle.records.specs.Past.{pastAs};
+ghost use Rattle.records.specs.Grids.{grid_as};
+ghost use Rattle.records.specs.Past.{past_as};
 ghost use Rattle.records.specs.Places.{place_in};
-ghost use Rattle.records.specs.Verdicts.{verdictIn};
-ghost use Rattle.covers.specs.Slots.{open_at, groupNumberAt};
-ghost use Rattle.stores.specs.States.{storesFrom, storesAt, stateTests};
+ghost use Rattle.records.specs.Verdicts.{verdict_in};
+ghost use Rattle.covers.specs.Slots.{open_at, group_number_at};
+ghost use Rattle.stores.specs.States.{stores_from, stores_at, state_tests};
 
 use covers::{MOST_SLOTS, is_open, root_depths, small_index};
 use records::{Depth, Grid, MOST_CELLS, Past, Place, Refusal, Verdict, stores_each, wide};
@@ -23,7 +23,7 @@ pub(crate) fn within_32(x: u32) -> u64
 
 // A store without snow fits everywhere, so that the table is looked into only where snow lies. On open water none may lie.
 fn snow_fits(covers: &[u32], slot: usize, snow: u32) -> bool
-    ensures { result ≡ leb snow (cond (open_at covers.now slot) 0 mostSnow) }
+    ensures { result ≡ leb snow (cond (open_at covers.now slot) 0 most_snow) }
 {
     if snow == 0 {
         return true;
@@ -43,8 +43,8 @@ fn stores_fit(
     soil: u32,
     snow: u32,
 ) -> bool
-    requires { roots.now ≡ made 256 (groupNumberAt covers.now 11) }
-    ensures { result ≡ storesFrom covers.now slot available soil snow }
+    requires { roots.now ≡ made 256 (group_number_at covers.now 11) }
+    ensures { result ≡ stores_from covers.now slot available soil snow }
 {
     let at = small_index(slot);
     (wide(soil) <= within_32(available) * within_32(roots[at])) & snow_fits(covers, at, snow)
@@ -60,7 +60,7 @@ fn bad_store(
 ) -> Place
     requires { (length available.now ≤ 4096) × (length soil.now ≡ length available.now) × (length snow.now ≡ length available.now) }
     ensures { result ≡ place_in (lowest (length available.now)
-        (λ i. not (storesAt covers.now slots.now available.now soil.now snow.now i))) }
+        (λ i. not (stores_at covers.now slots.now available.now soil.now snow.now i))) }
 {
     let roots = root_depths(covers);
     let n = available.len();
@@ -84,8 +84,8 @@ pub fn state_verdict(
     snow: &[u32],
     past: Past,
 ) -> Verdict
-    ensures { result ≡ verdictIn (verdict (stateTests (gridAs grid) covers.now slots.now available.now
-        soil.now snow.now (pastAs past))) }
+    ensures { result ≡ verdict_in (verdict (state_tests (grid_as grid) covers.now slots.now available.now
+        soil.now snow.now (past_as past))) }
 {
     if !grid.fits() {
         return Verdict::Refused(Refusal::Grid);

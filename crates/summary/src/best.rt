@@ -6,20 +6,20 @@ use records::Grid;
 use words::put_bytes;
 
 // The highest key comes first. An empty place has key 0, and no cell has.
-#[derive(Drop)]
+#[derive(Clone, Copy)]
 struct Entry {
     key: u64,
     cell: usize,
 }
 
 // Two entries in their order.
-#[derive(Drop)]
+#[derive(Clone, Copy)]
 struct Pair {
     before: Entry,
     after: Entry,
 }
 
-#[derive(Drop)]
+#[derive(Clone, Copy)]
 pub(crate) struct Five {
     first: Entry,
     second: Entry,
@@ -29,7 +29,7 @@ pub(crate) struct Five {
 }
 
 // Most and least.
-#[derive(Drop)]
+#[derive(Clone, Copy)]
 pub(crate) struct Ends {
     most: Five,
     least: Five,

@@ -19,7 +19,7 @@ const SUMMER_FROM: u64 = 182;
 const SUMMER_TO: u64 = 243;
 
 // A day's numbers, its temperatures lifted.
-#[derive(Drop)]
+#[derive(Clone, Copy)]
 pub(crate) struct Day {
     pub(crate) serial: u64,
     pub(crate) day_of_year: u64,
@@ -31,7 +31,7 @@ pub(crate) struct Day {
 }
 
 // Depths in units on one cell.
-#[derive(Drop)]
+#[derive(Clone, Copy)]
 pub(crate) struct Gathered {
     pub(crate) days: u64,
     pub(crate) gross: u64,

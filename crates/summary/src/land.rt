@@ -9,7 +9,7 @@ pub(crate) const CODES: usize = 256;
 pub(crate) const ENTRY_NUMBERS: usize = 16;
 
 // Of the cells of land, but for open water itself.
-#[derive(Drop)]
+#[derive(Clone, Copy)]
 pub(crate) struct Drained {
     pub(crate) land: u64,
     pub(crate) open_water: u64,
@@ -25,7 +25,7 @@ pub(crate) struct Drained {
 }
 
 // Where a cell lies.
-#[derive(Drop)]
+#[derive(Clone, Copy)]
 pub(crate) struct Place {
     pub(crate) row: usize,
     pub(crate) column: usize,

@@ -1,4 +1,6 @@
 // A period's sheet for a person, as a text: what it looks like is only run and compared, not proved. Each subject has a module.
+#![tactic(auto)]
+
 mod best;
 mod daily;
 mod ground;

@@ -18,7 +18,7 @@ const FIRST_FALLING: usize = 6;
 const LAST_FALLING: usize = 9;
 
 // Means are lifted.
-#[derive(Drop)]
+#[derive(Clone, Copy)]
 pub(crate) struct Month {
     pub(crate) days: u64,
     pub(crate) mean_sum: u64,
@@ -30,14 +30,14 @@ pub(crate) struct Month {
 }
 
 // A month's mean, where there is one.
-#[derive(Drop)]
+#[derive(Clone, Copy)]
 pub(crate) struct Mean {
     pub(crate) found: bool,
     pub(crate) lifted: u64,
 }
 
 // How many pairs of months are against the course of the year; of the first pair the first month, and both means.
-#[derive(Drop)]
+#[derive(Clone, Copy)]
 pub(crate) struct Course {
     pub(crate) pairs: u64,
     pub(crate) first: usize,

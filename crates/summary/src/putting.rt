@@ -3,7 +3,7 @@ use crate::numbers::{nearest, times};
 use words::{put_byte, put_bytes, put_inches, put_item, put_number};
 
 // A figure as it is told; the numbers are of its last digit.
-#[derive(Drop)]
+#[derive(Clone, Copy)]
 pub(crate) enum Figure {
     // There is none: its divisor is 0.
     Missing,

@@ -19,7 +19,7 @@ const SHARE_WIDTH: usize = 17;
 const YEAR_WIDTH: usize = 10;
 
 // The totals of some days: sums over the cells in units.
-#[derive(Drop)]
+#[derive(Clone, Copy)]
 pub(crate) struct Part {
     pub(crate) gross: u64,
     pub(crate) intercepted: u64,
@@ -33,14 +33,14 @@ pub(crate) struct Part {
 }
 
 // How depths are spread: over all cells, or over the land, which has no part in what fell on open water and is gone.
-#[derive(Drop)]
+#[derive(Clone, Copy)]
 pub(crate) struct Area {
     pub(crate) cells: u64,
     pub(crate) open_water: u64,
 }
 
 // How a year's figures are told: as inches over so many cells, or in percent of what fell.
-#[derive(Drop)]
+#[derive(Clone, Copy)]
 enum Measure {
     InchesOver(u64),
     PercentOf(u64),

@@ -69,7 +69,7 @@ const DEPRESSIONS_LEAST_CELLS: u64 = 20;
 
 // W1 to W13, in their order. W6 is given where two months are against the course of the year, W8 for snow in July or August, W10 where a day of year does not
 // follow, and W11 where a number of a tool that counts 1 to 8 is no direction here.
-#[derive(Drop)]
+#[derive(Clone, Copy)]
 pub(crate) struct Warned {
     pub(crate) precipitation: bool,
     pub(crate) wettest: bool,
@@ -87,7 +87,7 @@ pub(crate) struct Warned {
 }
 
 // What is seen in the input's figures: of the days, of their months, and of the cells.
-#[derive(Drop)]
+#[derive(Clone, Copy)]
 pub(crate) struct Seen {
     pub(crate) days: Gathered,
     pub(crate) summer: Mean,

@@ -12,7 +12,7 @@ use lib.ListN.{length, get_or, set, length-set}
 use lib.Seq.{get_or-set_same, get_or-set_other}
 use borrow.Author.Tests.{eqb-true, eqb-false}
 use Rattle.theory.specs.Lowest.{at}
-use Rattle.theory.proofs.Cases.{byCases}
+use Rattle.theory.proofs.Cases.{by_cases}
 use Rattle.survey.specs.Order.{waits, queued, Blank, Gathered, GatheredHeld}
 
 -- a cell put where none stands
@@ -20,38 +20,38 @@ module _ (l : List ℕ) (t v : ℕ) (small : v < 8192) (bare : queued l t ≡ 0)
   abbrev pub put : List ℕ
   put = set l t (get_or l t 0 + v)
 
-  pub put-waits : (i : ℕ) → waits put i ≡ waits l i
+  pub put_waits : (i : ℕ) → waits put i ≡ waits l i
   unfolding waits queued
-  put-waits i =
-      byCases (eqb t i)
+  put_waits i =
+      by_cases (eqb t i)
       (λ p. subst (λ (x : ℕ). get_or put x 0 / 8192 ≡ get_or l x 0 / 8192) (eqb-true t i p) (rw (get_or-set_same l t (get_or l t 0 + v) 0 h) (omega arith)))
       (λ p. ap (λ (x : ℕ). x / 8192) (get_or-set_other l t i (get_or l t 0 + v) 0 (λ s. eqb-false t i p (sym s))))
 
-  pub put-queued : queued put t ≡ v
+  pub put_queued : queued put t ≡ v
   unfolding queued
-  put-queued = rw (get_or-set_same l t (get_or l t 0 + v) 0 h) (omega arith)
+  put_queued = rw (get_or-set_same l t (get_or l t 0 + v) 0 h) (omega arith)
 
-  pub put-others : (s : ℕ) → (s ≡ t → ⊥) → queued put s ≡ queued l s
+  pub put_others : (s : ℕ) → (s ≡ t → ⊥) → queued put s ≡ queued l s
   unfolding queued
-  put-others s e = ap (λ (x : ℕ). x % 8192) (get_or-set_other l t s (get_or l t 0 + v) 0 e)
+  put_others s e = ap (λ (x : ℕ). x % 8192) (get_or-set_other l t s (get_or l t 0 + v) 0 e)
 
 -- one cell less to wait for
 module _ (l : List ℕ) (j : ℕ) (some : 8192 ≤ get_or l j 0) (h : j < length l) where
   abbrev pub less : List ℕ
   less = set l j (get_or l j 0 - 8192)
 
-  pub less-waits : waits less j + 1 ≡ waits l j
+  pub less_waits : waits less j + 1 ≡ waits l j
   unfolding waits
-  less-waits = rw (get_or-set_same l j (get_or l j 0 - 8192) 0 h) (omega arith)
+  less_waits = rw (get_or-set_same l j (get_or l j 0 - 8192) 0 h) (omega arith)
 
-  pub less-others : (i : ℕ) → (j ≡ i → ⊥) → waits less i ≡ waits l i
+  pub less_others : (i : ℕ) → (j ≡ i → ⊥) → waits less i ≡ waits l i
   unfolding waits
-  less-others i e = ap (λ (x : ℕ). x / 8192) (get_or-set_other l j i (get_or l j 0 - 8192) 0 (λ s. e (sym s)))
+  less_others i e = ap (λ (x : ℕ). x / 8192) (get_or-set_other l j i (get_or l j 0 - 8192) 0 (λ s. e (sym s)))
 
-  pub less-queued : (t : ℕ) → queued less t ≡ queued l t
+  pub less_queued : (t : ℕ) → queued less t ≡ queued l t
   unfolding queued
-  less-queued t =
-      byCases (eqb j t)
+  less_queued t =
+      by_cases (eqb j t)
       (λ p. subst (λ (x : ℕ). get_or less x 0 % 8192 ≡ get_or l x 0 % 8192) (eqb-true j t p) (rw (get_or-set_same l j (get_or l j 0 - 8192) 0 h) (omega arith)))
       (λ p. ap (λ (x : ℕ). x % 8192) (get_or-set_other l j t (get_or l j 0 - 8192) 0 (λ s. eqb-false j t p (sym s))))
 
@@ -71,15 +71,15 @@ gather_none b =
     }
 
 module _ {n : ℕ} {counts : ℕ → ℕ} {k tail : ℕ} {l : List ℕ} (g : GatheredHeld n counts k tail l) where
-  pub gather-fits : k < n → n ≤ 4096 → ((t : ℕ) → t < n → counts t ≤ 4096) → get_or l tail 0 + k < 4294967296
+  pub gather_fits : k < n → n ≤ 4096 → ((t : ℕ) → t < n → counts t ≤ 4096) → get_or l tail 0 + k < 4294967296
   unfolding waits queued
-  gather-fits h m f =
+  gather_fits h m f =
       let inside : tail < n = omega (arith, g.queue.short) in
       omega (arith, g.blank tail (le_refl tail) inside, g.queue.left tail inside, f tail inside)
 
-  pub gather-skip : 8192 ≤ get_or l k 0 → GatheredHeld n counts (k + 1) tail l
+  pub gather_skip : 8192 ≤ get_or l k 0 → GatheredHeld n counts (k + 1) tail l
   unfolding waits
-  gather-skip h =
+  gather_skip h =
       let q = g.queue in
       record {
         sized = g.sized;
@@ -113,10 +113,10 @@ module _ {n : ℕ} {counts : ℕ → ℕ} {k tail : ℕ} {l : List ℕ} (g : Gat
     room' = omega (arith, q.short, g.sized)
 
     here : queued l' tail ≡ k
-    here = put-queued l tail k small bare room'
+    here = put_queued l tail k small bare room'
 
     same : (t : ℕ) → t < tail → queued l' t ≡ queued l t
-    same t a = put-others l tail k small bare room' t (λ s. omega arith)
+    same t a = put_others l tail k small bare room' t (λ s. omega arith)
 
     none : waits l k ≡ 0
     none = unfold waits in omega arith
@@ -124,8 +124,8 @@ module _ {n : ℕ} {counts : ℕ → ℕ} {k tail : ℕ} {l : List ℕ} (g : Gat
     cases : {P : ℕ → Type 0} → ((t : ℕ) → t < tail → P t) → P tail → (t : ℕ) → t < tail + 1 → P t
     cases {P} old this t a = ⊎_elim (λ e. subst P (sym e) this) (old t) (eq-or-lt_of_le (le_of_suc-le-suc (rw add-one at a)))
 
-    pub gather-put : GatheredHeld n counts (k + 1) (tail + 1) l'
-    gather-put =
+    pub gather_put : GatheredHeld n counts (k + 1) (tail + 1) l'
+    gather_put =
         record {
           sized = length-set l tail (get_or l tail 0 + k) ∙ g.sized;
           queue = record {
@@ -137,13 +137,13 @@ module _ {n : ℕ} {counts : ℕ → ℕ} {k tail : ℕ} {l : List ℕ} (g : Gat
                 (λ a. rw (here, same s a) (q.placed s a)) t b a;
             free = λ t a.
                 cases {P = λ t. waits l' (queued l' t) ≡ 0}
-                (λ t b. put-waits l tail k small bare room' (queued l' t) ∙ rw (same t b) (q.free t b))
-                (put-waits l tail k small bare room' (queued l' tail) ∙ rw here none) t a;
+                (λ t b. put_waits l tail k small bare room' (queued l' t) ∙ rw (same t b) (q.free t b))
+                (put_waits l tail k small bare room' (queued l' tail) ∙ rw here none) t a;
             all = λ i a z.
                 ⊎_elim (λ s. (tail, rw add-one (lt-suc_self tail), here ∙ sym s))
-                (λ b. let (t, c, f) = q.all i b (sym (put-waits l tail k small bare room' i) ∙ z) in (t, omega arith, same t c ∙ f))
+                (λ b. let (t, c, f) = q.all i b (sym (put_waits l tail k small bare room' i) ∙ z) in (t, omega arith, same t c ∙ f))
                 (eq-or-lt_of_le (le_of_suc-le-suc (rw add-one at a)));
-            left = λ i a. put-waits l tail k small bare room' i ∙ q.left i a;
+            left = λ i a. put_waits l tail k small bare room' i ∙ q.left i a;
           };
-          blank = λ t a b. put-others l tail k small bare room' t (λ s. omega arith) ∙ g.blank t (omega arith) b;
+          blank = λ t a b. put_others l tail k small bare room' t (λ s. omega arith) ∙ g.blank t (omega arith) b;
         }

@@ -11,28 +11,28 @@ use lib.Dec.{eqb}
 use lib.ListN.{length, get_or, set}
 use borrow.Author.Count.{below_more}
 use borrow.Author.Tests.{ne_eqb}
-use Rattle.theory.specs.Lists.{madeOver}
+use Rattle.theory.specs.Lists.{made_over}
 use Rattle.theory.proofs.Cases.{below_or_not}
-use Rattle.theory.proofs.ListLaws.{over_none, over-more}
+use Rattle.theory.proofs.ListLaws.{over_none, over_more}
 use Rattle.theory.specs.Lowest.{lowest}
-use Rattle.paper.specs.Limits.{mostCells}
-use Rattle.paper.specs.Covers.{openOf}
+use Rattle.paper.specs.Limits.{most_cells}
+use Rattle.paper.specs.Covers.{open_of}
 use Rattle.covers.specs.Slots.{open_at}
-use Rattle.paper.specs.Directions.{Goes, way_of, goesBy}
+use Rattle.paper.specs.Directions.{Goes, way_of, goes_by}
 use Rattle.paper.specs.Setup.{pointed}
 use Rattle.records.specs.Places.{place_in}
 use Rattle.records.specs.declared.places.Place.TheVariants.{At, Nowhere}
-use Rattle.survey.specs.Order.{Counted, waitFor}
-use Rattle.survey.specs.Cells.{wayFrom, wayAt, LaidOrBad}
+use Rattle.survey.specs.Order.{Counted, wait_for}
+use Rattle.survey.specs.Cells.{way_from, way_at, LaidOrBad}
 use Rattle.survey.proofs.DirectionLaws.{goes_at}
 use Rattle.records.proofs.PlaceLaws.{PassedTo}
-use Rattle.survey.proofs.CountLaws.{count-one}
+use Rattle.survey.proofs.CountLaws.{count_one}
 
 -- at a cell without a slot nothing is said of the arrays
-pub laid-bad : (n : ℕ) (slot way : ℕ → ℕ) (i : ℕ) (slots₀ slots ways₀ ways order : List ℕ) → At i ≡ place_in (lowest n (λ j. eqb (slot j) 256))
+pub laid_bad : (n : ℕ) (slot way : ℕ → ℕ) (i : ℕ) (slots₀ slots ways₀ ways order : List ℕ) → At i ≡ place_in (lowest n (λ j. eqb (slot j) 256))
     → LaidOrBad n slot way (At i) slots₀ slots ways₀ ways order
-laid-bad n slot way i slots₀ slots ways₀ ways order found =
-    record { lowest-bad = found; slotted = λ e. absurd (never e); laid = λ e. absurd (never e); counted = λ e. absurd (never e) }
+laid_bad n slot way i slots₀ slots ways₀ ways order found =
+    record { lowest_bad = found; slotted = λ e. absurd (never e); laid = λ e. absurd (never e); counted = λ e. absurd (never e) }
   where
     never : At i ≡ Nowhere → ⊥
     never e = let z : ◌≡◌ {A = ℕ} 0 1 = cc in omega arith
@@ -44,11 +44,11 @@ module _ (width height : ℕ) (covers direction : List ℕ) (slot : ℕ → ℕ)
     pub inside : column < width
     pub within : i ≤ width * height
     pub passed : PassedTo (λ j. eqb (slot j) 256) i
-    pub slotted : slots ≡ madeOver i slot slots₀
-    pub laid : ways ≡ madeOver i (wayAt width height covers slot direction) ways₀
-    pub counted : Counted (width * height) (wayAt width height covers slot direction) i order
+    pub slotted : slots ≡ made_over i slot slots₀
+    pub laid : ways ≡ made_over i (way_at width height covers slot direction) ways₀
+    pub counted : Counted (width * height) (way_at width height covers slot direction) i order
 
-  pub laid_none : (order : List ℕ) → 1 ≤ width → Counted (width * height) (wayAt width height covers slot direction) 0 order
+  pub laid_none : (order : List ℕ) → 1 ≤ width → Counted (width * height) (way_at width height covers slot direction) 0 order
       → Laid slots₀ ways₀ order 0 0 0
   laid_none order h none =
       record {
@@ -62,24 +62,24 @@ module _ (width height : ℕ) (covers direction : List ℕ) (slot : ℕ → ℕ)
       }
 
   module _ (slots ways order : List ℕ) (row column i : ℕ) (s : Laid slots ways order row column i) (h : i < width * height) where
-    pub laid-row : row < height
-    laid-row =
+    pub laid_row : row < height
+    laid_row =
         below_or_not row height (λ l. l)
         (λ l. absurd (omega (arith, s.at, mul-le-mul_right {m = height} {n = row} width l)))
 
-    way-is : wayFrom width height row column (openOf covers (slot i / 4)) (get_or direction i 0) ≡ wayAt width height covers slot direction i
-    unfolding wayFrom wayAt
-    way-is =
-        ap (λ (g : Goes). cond (open_at covers (slot i)) (suc (suc mostCells)) (pointed g))
+    way_is : way_from width height row column (open_of covers (slot i / 4)) (get_or direction i 0) ≡ way_at width height covers slot direction i
+    unfolding way_from way_at
+    way_is =
+        ap (λ (g : Goes). cond (open_at covers (slot i)) (suc (suc most_cells)) (pointed g))
         (goes_at width height row column (way_of (get_or direction i 0)) s.inside
-        ∙ ap (λ (k : ℕ). goesBy width height k (way_of (get_or direction i 0))) (sym s.at))
+        ∙ ap (λ (k : ℕ). goes_by width height k (way_of (get_or direction i 0))) (sym s.at))
 
-    module _ (found way : ℕ) (slots-sized : length slots₀ ≡ 4096) (ways-sized : length ways₀ ≡ 4096) (few : width * height ≤ 4096)
+    module _ (found way : ℕ) (slots_sized : length slots₀ ≡ 4096) (ways_sized : length ways₀ ≡ 4096) (few : width * height ≤ 4096)
         (has : found ≡ slot i) (fits : found ≡ 256 → ⊥)
-        (points : way ≡ wayFrom width height row column (openOf covers (found / 4)) (get_or direction i 0))
-        (counts : List ℕ) (counts-are : counts ≡ waitFor (width * height) way order) where
-      points-at : way ≡ wayAt width height covers slot direction i
-      points-at = points ∙ ap (λ (k : ℕ). wayFrom width height row column (openOf covers (k / 4)) (get_or direction i 0)) has ∙ way-is
+        (points : way ≡ way_from width height row column (open_of covers (found / 4)) (get_or direction i 0))
+        (counts : List ℕ) (counts_are : counts ≡ wait_for (width * height) way order) where
+      points_at : way ≡ way_at width height covers slot direction i
+      points_at = points ∙ ap (λ (k : ℕ). way_from width height row column (open_of covers (k / 4)) (get_or direction i 0)) has ∙ way_is
 
       module _ (row' column' : ℕ) where
         laid_more : i + 1 ≡ row' * width + column' → column' < width
@@ -90,16 +90,16 @@ module _ (width height : ℕ) (covers direction : List ℕ) (slot : ℕ → ℕ)
               inside = inside';
               within = omega arith;
               passed = below_more _ _ s.passed (ne_eqb _ _ (λ e. fits (has ∙ e)));
-              slotted = rw (s.slotted, has, add-one) (over-more i _ slots₀ (omega arith));
-              laid = rw (s.laid, points-at, add-one) (over-more i _ ways₀ (omega arith));
-              counted = rw counts-are (count-one s.counted way (sym points-at) few);
+              slotted = rw (s.slotted, has, add-one) (over_more i _ slots₀ (omega arith));
+              laid = rw (s.laid, points_at, add-one) (over_more i _ ways₀ (omega arith));
+              counted = rw counts_are (count_one s.counted way (sym points_at) few);
             }
 
         -- on to the next row, or to the next column
-        pub laid-down : column + 1 ≡ width → row' ≡ row + 1 → column' ≡ 0
+        pub laid_down : column + 1 ≡ width → row' ≡ row + 1 → column' ≡ 0
             → Laid (set slots i found) (set ways i way) counts row' column' (i + 1)
-        laid-down last down left = laid_more (rw (down, left) (omega (arith, s.at))) (omega (arith, s.inside))
+        laid_down last down left = laid_more (rw (down, left) (omega (arith, s.at))) (omega (arith, s.inside))
 
-        pub laid-right : (column + 1 ≡ width → ⊥) → row' ≡ row → column' ≡ column + 1
+        pub laid_right : (column + 1 ≡ width → ⊥) → row' ≡ row → column' ≡ column + 1
             → Laid (set slots i found) (set ways i way) counts row' column' (i + 1)
-        laid-right more same right = laid_more (rw (same, right) (omega (arith, s.at))) (omega (arith, s.inside))
+        laid_right more same right = laid_more (rw (same, right) (omega (arith, s.at))) (omega (arith, s.inside))

@@ -6,37 +6,37 @@ use Prim.Native.Nat.{ℕ, ◌<◌}
 use lib.ListN.{length, get_or}
 use borrow.Author.Tests.{leb-true, eqb-true}
 use Rattle.theory.proofs.Cases.{and_left, and_right}
-use Rattle.theory.specs.Lists.{madeOver}
-use Rattle.paper.specs.Setup.{Setup, cells, cellFits}
-use Rattle.paper.specs.Refusals.{accepted, oneEach, setupLengths}
-use Rattle.paper.specs.Day.{checkOf}
+use Rattle.theory.specs.Lists.{made_over}
+use Rattle.paper.specs.Setup.{Setup, cells, cell_fits}
+use Rattle.paper.specs.Refusals.{accepted, one_each, setup_lengths}
+use Rattle.paper.specs.Day.{check_of}
 use Rattle.paper.proofs.SetupLaws.{Charted, Sound, sound}
 use Rattle.survey.specs.Charts.{slot_of, SlotsFit}
-use Rattle.survey.proofs.CellLaws.{slot-limit}
-use Rattle.theory.proofs.ListLaws.{over-at}
+use Rattle.survey.proofs.CellLaws.{slot_limit}
+use Rattle.theory.proofs.ListLaws.{over_at}
 
-pub sound-setup : (s : Setup) → checkOf s ≡ accepted → Sound s (setupLengths s)
-unfolding checkOf
-sound-setup s v = sound s (setupLengths s) [] (rw append-nil v)
+pub sound_setup : (s : Setup) → check_of s ≡ accepted → Sound s (setup_lengths s)
+unfolding check_of
+sound_setup s v = sound s (setup_lengths s) [] (rw append-nil v)
 
-pub waters-each : (s : Setup) → checkOf s ≡ accepted → length s.available ≡ cells s
-unfolding setupLengths oneEach
-waters-each s v =
-    let each : oneEach (cells s) (setupLengths s) ≡ true = (sound-setup s v).lent in eqb-true _ _ (search (and_left, and_right))
+pub waters_each : (s : Setup) → check_of s ≡ accepted → length s.available ≡ cells s
+unfolding setup_lengths one_each
+waters_each s v =
+    let each : one_each (cells s) (setup_lengths s) ≡ true = (sound_setup s v).lent in eqb-true _ _ (search (and_left, and_right))
 
-module _ (s : Setup) (ok : Charted s) (lent slots : List ℕ) (slots-are : slots ≡ madeOver (cells s) (slot_of s) lent)
+module _ (s : Setup) (ok : Charted s) (lent slots : List ℕ) (slots_are : slots ≡ made_over (cells s) (slot_of s) lent)
     (sized : length slots ≡ 4096) (each : length s.available ≡ cells s) where
-  pub slot-at : (i : ℕ) → i < cells s → get_or slots i 0 ≡ slot_of s i
-  slot-at i h = rw (slots-are) (over-at (cells s) (slot_of s) lent 0 i h)
+  pub slot_at_lem : (i : ℕ) → i < cells s → get_or slots i 0 ≡ slot_of s i
+  slot_at_lem i h = rw (slots_are) (over_at (cells s) (slot_of s) lent 0 i h)
 
-  pub slots-fit : SlotsFit s.covers (cells s) slots s.available
-  unfolding cellFits
-  slots-fit =
+  pub slots_fit : SlotsFit s.covers (cells s) slots s.available
+  unfolding cell_fits
+  slots_fit =
       record {
         table = record { sized = ok.sized; fit = ok.entered };
         few = ok.few;
         sized = sized;
-        slotted = λ i h. rw (slot-at i h) (slot-limit s ok i h);
+        slotted = λ i h. rw (slot_at_lem i h) (slot_limit s ok i h);
         each = each;
-        watered = λ i h. leb-true _ _ (let fits : cellFits s i ≡ true = ok.celled i h in search (and_left, and_right));
+        watered = λ i h. leb-true _ _ (let fits : cell_fits s i ≡ true = ok.celled i h in search (and_left, and_right));
       }

@@ -10,11 +10,11 @@ use native.Mathlib.Omega.{arith, by_contra}
 use lib.Dec.{eqb}
 use borrow.Author.Tests.{eq-eqb, ne_eqb, eqb-true, eqb-false}
 use Rattle.theory.specs.Sums.{sum, given}
-use Rattle.theory.proofs.Cases.{byCases}
-use Rattle.theory.proofs.SumLaws.{sum-cong, sum-add, sum_same, sum-part, sum-pick}
-use Rattle.theory.proofs.GivenLaws.{given-true}
+use Rattle.theory.proofs.Cases.{by_cases}
+use Rattle.theory.proofs.SumLaws.{sum_cong, sum_add, sum_same, sum_part, sum_pick}
+use Rattle.theory.proofs.GivenLaws.{given_true}
 use Rattle.survey.specs.Order.{leading, Gathered, Queue}
-use Rattle.theory.proofs.SumsAlong.{sum-extend}
+use Rattle.theory.proofs.SumsAlong.{sum_extend}
 
 pub leads : (next : ℕ → ℕ) (i j : ℕ) → next j ≡ i → leading next i j ≡ 1
 unfolding leading given
@@ -29,9 +29,9 @@ unfoldable pub without : (ℕ → Bool) → ℕ → ℕ → Bool
 without rest c j = not (eqb c j) && rest j
 
 module _ (rest : ℕ → Bool) (c : ℕ) where
-  pub without-it : (j : ℕ) → c ≡ j → without rest c j ≡ false
+  pub without_it : (j : ℕ) → c ≡ j → without rest c j ≡ false
   unfolding without
-  without-it j e = rw (eq-eqb c j e)
+  without_it j e = rw (eq-eqb c j e)
 
   pub without_other : (j : ℕ) → (c ≡ j → ⊥) → without rest c j ≡ rest j
   unfolding without
@@ -40,8 +40,8 @@ module _ (rest : ℕ → Bool) (c : ℕ) where
   split : rest c ≡ true → (j x : ℕ) → given (rest j) x ≡ given (without rest c j) x + given (eqb c j) x
   unfolding given
   split r j x =
-      byCases (eqb c j)
-      (λ p. rw (without-it j (eqb-true c j p), p, subst (λ (i : ℕ). rest i ≡ true) (eqb-true c j p) r) (omega arith))
+      by_cases (eqb c j)
+      (λ p. rw (without_it j (eqb-true c j p), p, subst (λ (i : ℕ). rest i ≡ true) (eqb-true c j p) r) (omega arith))
       (λ p. rw (without_other j (eqb-false c j p), p) (omega arith))
 
 module _ {n : ℕ} {next waits queued : ℕ → ℕ} where
@@ -66,7 +66,7 @@ module _ {n : ℕ} {next waits queued : ℕ → ℕ} where
               g.left i (g.placed t h),
               each i (g.placed t h),
               leads next i j e,
-              sum-part n (leading next i) j l,
+              sum_part n (leading next i) j l,
             ));
       }
 
@@ -76,7 +76,7 @@ module _ {n : ℕ} {next waits queued : ℕ → ℕ} where
     room j h w =
         omega (
           arith,
-          sum-extend tail n queued (λ i. 1) q.placed q.once j h (λ t l e. omega (arith, q.free t l, ap waits e)),
+          sum_extend tail n queued (λ i. 1) q.placed q.once j h (λ t l e. omega (arith, q.free t l, ap waits e)),
           sum_same tail 1,
           sum_same n 1,
         )
@@ -90,8 +90,8 @@ module _ {n : ℕ} {next waits queued : ℕ → ℕ} where
             arith,
             q.left (next c) l,
             leads next (next c) c refl,
-            given-true (rest c) (leading next (next c) c) ready,
-            sum-part n (λ j. given (rest j) (leading next (next c) j)) c h,
+            given_true (rest c) (leading next (next c) c) ready,
+            sum_part n (λ j. given (rest j) (leading next (next c) j)) c h,
           )
 
       pub new : next c < n → (t : ℕ) → t < tail → queued t ≡ next c → ⊥
@@ -102,14 +102,14 @@ module _ {n : ℕ} {next waits queued : ℕ → ℕ} where
       one_less i =
           omega (
             arith,
-            sum-cong n (λ j. given (rest j) (leading next i j)) _ (λ j _. split rest c ready j (leading next i j)),
-            sum-add n (λ j. given (without rest c j) (leading next i j)) (λ j. given (eqb c j) (leading next i j)),
-            sum-pick n (leading next i) c h,
+            sum_cong n (λ j. given (rest j) (leading next i j)) _ (λ j _. split rest c ready j (leading next i j)),
+            sum_add n (λ j. given (without rest c j) (leading next i j)) (λ j. given (eqb c j) (leading next i j)),
+            sum_pick n (leading next i) c h,
           )
 
       pub shut : (j : ℕ) → j < n → without rest c j ≡ false → waits j ≡ 0
       shut j l e =
-          byCases (eqb c j) (λ p. subst (λ (i : ℕ). waits i ≡ 0) (eqb-true c j p) none)
+          by_cases (eqb c j) (λ p. subst (λ (i : ℕ). waits i ≡ 0) (eqb-true c j p) none)
           (λ p. q.taken j l (sym (without_other rest c j (eqb-false c j p)) ∙ e))
 
       -- it leads outside
@@ -128,48 +128,48 @@ module _ {n : ℕ} {next waits queued : ℕ → ℕ} where
 
       module _ {fewer : ℕ → ℕ} (l : next c < n) (one : fewer (next c) + 1 ≡ waits (next c))
           (others : (i : ℕ) → (next c ≡ i → ⊥) → fewer i ≡ waits i) where
-        fewer-left : (i : ℕ) → i < n → fewer i ≡ sum n (λ j. given (without rest c j) (leading next i j))
-        fewer-left i a =
-            byCases (eqb (next c) i)
+        fewer_left : (i : ℕ) → i < n → fewer i ≡ sum n (λ j. given (without rest c j) (leading next i j))
+        fewer_left i a =
+            by_cases (eqb (next c) i)
             (λ e. let same = eqb-true (next c) i e in
             omega (arith, q.left i a, one_less i, leads next i c same, one, ap fewer same, ap waits same))
             (λ e. let other = eqb-false (next c) i e in
             omega (arith, q.left i a, one_less i, elsewhere next i c other, others i other))
 
-        none-fewer : (i : ℕ) → waits i ≡ 0 → fewer i ≡ 0
-        none-fewer i z = others i (λ e. omega (arith, waiting l, ap waits e)) ∙ z
+        none_fewer : (i : ℕ) → waits i ≡ 0 → fewer i ≡ 0
+        none_fewer i z = others i (λ e. omega (arith, waiting l, ap waits e)) ∙ z
 
         -- it leads to a cell that waits for others too
-        pub still-waiting : 0 < fewer (next c) → Queue n next fewer queued (without rest c) tail
-        still-waiting w =
+        pub still_waiting : 0 < fewer (next c) → Queue n next fewer queued (without rest c) tail
+        still_waiting w =
             record {
               short = q.short;
               placed = q.placed;
               once = q.once;
-              free = λ t a. none-fewer (queued t) (q.free t a);
+              free = λ t a. none_fewer (queued t) (q.free t a);
               all = λ i a e. q.all i a (sym (others i (λ s. omega (arith, ap fewer s))) ∙ e);
-              left = fewer-left;
-              taken = λ j a e. none-fewer j (shut j a e);
+              left = fewer_left;
+              taken = λ j a e. none_fewer j (shut j a e);
               earlier = q.earlier;
             }
 
         -- all that lead to it are taken
-        all-taken : fewer (next c) ≡ 0 → (j : ℕ) → j < n → next j ≡ next c → (u : ℕ) × (u < tail) × (queued u ≡ j)
-        all-taken z j a e =
-            byCases (without rest c j)
+        all_taken : fewer (next c) ≡ 0 → (j : ℕ) → j < n → next j ≡ next c → (u : ℕ) × (u < tail) × (queued u ≡ j)
+        all_taken z j a e =
+            by_cases (without rest c j)
             (λ p. absurd (omega (
               arith,
-              fewer-left (next c) l,
+              fewer_left (next c) l,
               leads next (next c) j e,
-              given-true (without rest c j) (leading next (next c) j) p,
-              sum-part n (λ j. given (without rest c j) (leading next (next c) j)) j a,
+              given_true (without rest c j) (leading next (next c) j) p,
+              sum_part n (λ j. given (without rest c j) (leading next (next c) j)) j a,
             )))
             (λ p. q.all j a (shut j a p))
 
         module _ {longer : ℕ → ℕ} (z : fewer (next c) ≡ 0) (last : longer tail ≡ next c)
             (before : (t : ℕ) → t < tail → longer t ≡ queued t) where
-          new-still : (t : ℕ) → t < tail → longer t ≡ next c → ⊥
-          new-still t a e = new l t a (sym (before t a) ∙ e)
+          new_still : (t : ℕ) → t < tail → longer t ≡ next c → ⊥
+          new_still t a e = new l t a (sym (before t a) ∙ e)
 
           cases : {P : ℕ → Type 0} → ((t : ℕ) → t < tail → P t) → P tail → (t : ℕ) → t < suc tail → P t
           cases {P} old this t a = ⊎_elim (λ e. subst P (sym e) this) (old t) (eq-or-lt_of_le (le_of_suc-le-suc a))
@@ -183,20 +183,20 @@ module _ {n : ℕ} {next waits queued : ℕ → ℕ} where
                 once = λ s t a b.
                     cases {P = λ s. longer s ≡ longer t → s ≡ t}
                     (λ s a. cases {P = λ t. longer s ≡ longer t → s ≡ t}
-                    (λ t b e. q.once s t a b (sym (before s a) ∙ e ∙ before t b)) (λ e. absurd (new-still s a (e ∙ last))) t b)
-                    (cases {P = λ t. longer tail ≡ longer t → tail ≡ t} (λ t b e. absurd (new-still t b (sym e ∙ last))) (λ e. refl) t b)
+                    (λ t b e. q.once s t a b (sym (before s a) ∙ e ∙ before t b)) (λ e. absurd (new_still s a (e ∙ last))) t b)
+                    (cases {P = λ t. longer tail ≡ longer t → tail ≡ t} (λ t b e. absurd (new_still t b (sym e ∙ last))) (λ e. refl) t b)
                     s a;
-                free = cases (λ t a. rw (before t a) (none-fewer (queued t) (q.free t a))) (rw last z);
+                free = cases (λ t a. rw (before t a) (none_fewer (queued t) (q.free t a))) (rw last z);
                 all = λ i a e.
-                    byCases (eqb (next c) i)
+                    by_cases (eqb (next c) i)
                     (λ s. (tail, lt-suc_self tail, last ∙ eqb-true (next c) i s))
                     (λ s. let (t, b, f) = q.all i a (sym (others i (eqb-false (next c) i s)) ∙ e) in (t, le_step b, before t b ∙ f));
-                left = fewer-left;
-                taken = λ j a e. none-fewer j (shut j a e);
+                left = fewer_left;
+                taken = λ j a e. none_fewer j (shut j a e);
                 earlier = λ t j a b.
                     cases {P = λ t. next j ≡ longer t → (u : ℕ) × (u < t) × (longer u ≡ j)}
                     (λ t a e. let (u, d, f) = q.earlier t j a b (e ∙ before t a) in (u, d, before u (lt_trans d a) ∙ f))
-                    (λ e. let (u, d, f) = all-taken z j b (e ∙ last) in (u, d, before u d ∙ f))
+                    (λ e. let (u, d, f) = all_taken z j b (e ∙ last) in (u, d, before u d ∙ f))
                     t a;
               }
 

@@ -10,12 +10,12 @@ use lib.Dec.{eqb, ltb}
 use borrow.Author.Tests.{eq-eqb, ne_eqb, eqb-true, eqb-false, ltb-true, ltb-false, lt-ltb, le-ltb}
 use Rattle.theory.specs.Sums.{given}
 use Rattle.theory.specs.Lowest.{Found, at, nowhere, lowest, some}
-use Rattle.theory.specs.Ways.{walk, onRing, OneWay, UpslopeFirst}
-use Rattle.theory.proofs.Cases.{byCases, and_left, and_right}
-use Rattle.theory.proofs.SumLaws.{sum-cong, sum_same, sum-none, sum-cover, given-most}
-use Rattle.theory.proofs.GivenLaws.{given-false}
-use Rattle.theory.proofs.LowestLaws.{some-true, some-false, at-lowest}
-use Rattle.theory.proofs.WayLaws.{ring-back, fed-on-ring}
+use Rattle.theory.specs.Ways.{walk, on_ring, OneWay, UpslopeFirst}
+use Rattle.theory.proofs.Cases.{by_cases, and_left, and_right}
+use Rattle.theory.proofs.SumLaws.{sum_cong, sum_same, sum_none, sum_cover, given_most}
+use Rattle.theory.proofs.GivenLaws.{given_false}
+use Rattle.theory.proofs.LowestLaws.{some_true, some_false, at_lowest}
+use Rattle.theory.proofs.WayLaws.{ring_back, fed_on_ring}
 use Rattle.survey.specs.Order.{leading, Queue}
 use Rattle.survey.proofs.OrderLaws.{elsewhere}
 
@@ -32,26 +32,26 @@ module _ {n : ℕ} {next waits queued : ℕ → ℕ} {rest : ℕ → Bool} {tail
       let (v, d, g) = upslope k u x (lt_trans c a) b (sym f) in
       (v, lt_trans d c, g)
 
-  off-ring : (i : ℕ) → i < n → waits i ≡ 0 → onRing n next i ≡ false
-  off-ring i h z =
-      byCases (onRing n next i)
+  off_ring : (i : ℕ) → i < n → waits i ≡ 0 → on_ring n next i ≡ false
+  off_ring i h z =
+      by_cases (on_ring n next i)
       (λ e.
       let (t, a, f) = q.all i h z in
-      let (k, _, b) = ring-back n next i e in
+      let (k, _, b) = ring_back n next i e in
       let (u, c, g) = upslope k t i a h (b ∙ sym f) in
       absurd (omega (arith, q.once u t (lt_trans c a) a (g ∙ sym f))))
       (λ e. e)
 
   fed : (i : ℕ) → i < n → 0 < waits i → (j : ℕ) × (j < n) × (ltb 0 (waits j) ≡ true) × (next j ≡ i)
   fed i h w =
-      byCases (some n (λ j. eqb (next j) i && ltb 0 (waits j)))
-      (λ e. let (j, a, b) = some-true n (λ j. eqb (next j) i && ltb 0 (waits j)) e in
+      by_cases (some n (λ j. eqb (next j) i && ltb 0 (waits j)))
+      (λ e. let (j, a, b) = some_true n (λ j. eqb (next j) i && ltb 0 (waits j)) e in
       (j, a, and_right (eqb (next j) i) (ltb 0 (waits j)) b, eqb-true (next j) i (and_left (eqb (next j) i) (ltb 0 (waits j)) b)))
       (λ e. absurd (omega (
         arith,
         q.left i h,
-        sum-none n,
-        sum-cong n _ (λ j. 0) (λ j a. nothing j a (some-false n (λ j. eqb (next j) i && ltb 0 (waits j)) e j a)),
+        sum_none n,
+        sum_cong n _ (λ j. 0) (λ j a. nothing j a (some_false n (λ j. eqb (next j) i && ltb 0 (waits j)) e j a)),
       )))
     where
       none : (j : ℕ) → next j ≡ i → (eqb (next j) i && ltb 0 (waits j)) ≡ false → waits j ≡ 0
@@ -59,52 +59,52 @@ module _ {n : ℕ} {next waits queued : ℕ → ℕ} {rest : ℕ → Bool} {tail
 
       nothing : (j : ℕ) → j < n → (eqb (next j) i && ltb 0 (waits j)) ≡ false → given (rest j) (leading next i j) ≡ 0
       nothing j a e =
-          byCases (eqb (next j) i)
+          by_cases (eqb (next j) i)
           (λ s. let (t, b, f) = q.all j a (none j (eqb-true (next j) i s) e) in
-          given-false (rest j) _ (subst (λ (x : ℕ). rest x ≡ false) f (gone t b)))
-          (λ s. omega (arith, given-most (rest j) (leading next i j), elsewhere next i j (eqb-false (next j) i s)))
+          given_false (rest j) _ (subst (λ (x : ℕ). rest x ≡ false) f (gone t b)))
+          (λ s. omega (arith, given_most (rest j) (leading next i j), elsewhere next i j (eqb-false (next j) i s)))
 
-  on-ring : (i : ℕ) → i < n → 0 < waits i → onRing n next i ≡ true
-  on-ring i h w =
-      fed-on-ring n next out (λ j. ltb 0 (waits j)) (λ j a e. fed j a (ltb-true 0 (waits j) e)) i h (lt-ltb 0 (waits i) w)
+  on_ring_lem : (i : ℕ) → i < n → 0 < waits i → on_ring n next i ≡ true
+  on_ring_lem i h w =
+      fed_on_ring n next out (λ j. ltb 0 (waits j)) (λ j a e. fed j a (ltb-true 0 (waits j) e)) i h (lt-ltb 0 (waits i) w)
 
-  pub leftover-rings : (i : ℕ) → i < n → ltb 0 (waits i) ≡ onRing n next i
-  leftover-rings i h =
-      ⊎_elim (λ e. le-ltb 0 (waits i) (omega arith) ∙ sym (off-ring i h e)) (λ w. lt-ltb 0 (waits i) w ∙ sym (on-ring i h w))
+  pub leftover_rings : (i : ℕ) → i < n → ltb 0 (waits i) ≡ on_ring n next i
+  leftover_rings i h =
+      ⊎_elim (λ e. le-ltb 0 (waits i) (omega arith) ∙ sym (off_ring i h e)) (λ w. lt-ltb 0 (waits i) w ∙ sym (on_ring_lem i h w))
       (eq-zero-or-pos (waits i))
 
   place : Found → ℕ
   place (at t) = t
   place nowhere = 0
 
-  turn-of : ℕ → ℕ
-  turn-of i = place (lowest n (λ t. eqb (queued t) i))
+  turn_of : ℕ → ℕ
+  turn_of i = place (lowest n (λ t. eqb (queued t) i))
 
   module _ (none : (i : ℕ) → i < n → waits i ≡ 0) where
     whole : n ≤ tail
-    whole = omega (arith, sum_same n 1, sum_same tail 1, sum-cover tail n queued (λ i. 1) (λ i h. q.all i h (none i h)))
+    whole = omega (arith, sum_same n 1, sum_same tail 1, sum_cover tail n queued (λ i. 1) (λ i h. q.all i h (none i h)))
 
-    turned : (t : ℕ) → t < n → turn-of (queued t) ≡ t
-    unfolding turn-of place
+    turned : (t : ℕ) → t < n → turn_of (queued t) ≡ t
+    unfolding turn_of place
     turned t h =
-        ap place (at-lowest n (λ s. eqb (queued s) (queued t)) t h (eq-eqb (queued t) (queued t) refl)
+        ap place (at_lowest n (λ s. eqb (queued s) (queued t)) t h (eq-eqb (queued t) (queued t) refl)
         (λ s l. ne_eqb (queued s) (queued t) (λ e. omega (arith, whole, q.once s t (omega (arith, whole)) (omega (arith, whole)) e))))
 
-    turn : (i : ℕ) → i < n → (t : ℕ) × (t < n) × (queued t ≡ i) × (turn-of i ≡ t)
+    turn : (i : ℕ) → i < n → (t : ℕ) × (t < n) × (queued t ≡ i) × (turn_of i ≡ t)
     turn i h =
         let (t, a, e) = q.all i h (none i h) in
         let b : t < n = lt_of_lt_of_le a q.short in
-        (t, b, e, subst (λ (j : ℕ). turn-of j ≡ t) e (turned t b))
+        (t, b, e, subst (λ (j : ℕ). turn_of j ≡ t) e (turned t b))
 
     pub peeled : UpslopeFirst n next
     peeled =
         record {
           who = queued;
-          turn = turn-of;
+          turn = turn_of;
           placed = λ t h. q.placed t (lt_of_lt_of_le h whole);
           turned = λ i h. let (t, a, b, c) = turn i h in rw c a;
-          who-turn = λ i h. let (t, a, b, c) = turn i h in rw c b;
-          turn-who = turned;
+          who_turn = λ i h. let (t, a, b, c) = turn i h in rw c b;
+          turn_who = turned;
           after = λ j h l.
               let (t, a, b, c) = turn (next j) l in
               let (s, d, e, f) = turn j h in
@@ -112,6 +112,6 @@ module _ {n : ℕ} {next waits queued : ℕ → ℕ} {rest : ℕ → Bool} {tail
               omega (arith, q.once s u (lt_of_lt_of_le d whole) (lt_trans x (lt_of_lt_of_le a whole)) (e ∙ sym y));
         }
 
-    pub peeled-who : (t : ℕ) → peeled.who t ≡ queued t
+    pub peeled_who : (t : ℕ) → peeled.who t ≡ queued t
     unfolding peeled
-    peeled-who t = refl
+    peeled_who t = refl

@@ -7,125 +7,125 @@ use Prim.Native.Nat.{ℕ, ◌*◌, ◌<◌}
 use native.Mathlib.Omega.{arith}
 use lib.ListN.{length, drop}
 use borrow.Author.Tests.{not-false}
-use Rattle.theory.specs.Lists.{madeOver}
+use Rattle.theory.specs.Lists.{made_over}
 use Rattle.theory.specs.Lowest.{at, nowhere, lowest}
-use Rattle.theory.specs.Ways.{onRing}
-use Rattle.theory.proofs.ListLaws.{made-cong, over-length}
-use Rattle.theory.proofs.LowestLaws.{lowest-none, lowest-cong}
+use Rattle.theory.specs.Ways.{on_ring}
+use Rattle.theory.proofs.ListLaws.{made_cong, over_length}
+use Rattle.theory.proofs.LowestLaws.{lowest_none, lowest_cong}
 use Rattle.paper.specs.Covers.{entries}
-use Rattle.paper.specs.Setup.{Setup, cells, cells_of, cellFits, climateFits, next}
-use Rattle.paper.specs.Refusals.{Refusal, Verdict, cellNumbers, ring, climate, accepted, refused, Test, verdict, single, coverTest, mapTests}
-use Rattle.paper.proofs.RefusalLaws.{pass-single, fail-single, pass-many, fail-many, accepted-then, refused-then}
-use Rattle.records.proofs.PlaceLaws.{found_at, found-no}
-use Rattle.records.specs.Verdicts.{refusalIn, verdictIn}
-use Rattle.survey.specs.Charts.{Surveyable, Chart, slot_of, nextAs, WaysFit, OrderedBy}
+use Rattle.paper.specs.Setup.{Setup, cells, cells_of, cell_fits, climate_fits, next}
+use Rattle.paper.specs.Refusals.{Refusal, Verdict, cell_numbers, ring, climate, accepted, refused, Test, verdict, single, cover_test, map_tests}
+use Rattle.paper.proofs.RefusalLaws.{pass_single, fail_single, pass_many, fail_many, accepted_then, refused_then}
+use Rattle.records.proofs.PlaceLaws.{found_at, found_no}
+use Rattle.records.specs.Verdicts.{refusal_in, verdict_in}
+use Rattle.survey.specs.Charts.{Surveyable, Chart, slot_of, next_as, WaysFit, OrderedBy}
 use Rattle.survey.specs.Order.{Counted, OrderOrRing}
-use Rattle.survey.specs.Cells.{slot_at, wayAt, Layable, LaidOrBad}
+use Rattle.survey.specs.Cells.{slot_at, way_at, Layable, LaidOrBad}
 use Rattle.records.specs.declared.verdicts.Verdict.TheVariants.{Accepted, Refused}
 use Rattle.paper.proofs.SetupLaws.{Charted, next_past}
-use Rattle.survey.proofs.SlotLaws.{index-fits, index-entered, slot-test, slot_is}
-use Rattle.survey.proofs.CellLaws.{way-is}
+use Rattle.survey.proofs.SlotLaws.{index_fits, index_entered, slot_test, slot_is}
+use Rattle.survey.proofs.CellLaws.{way_is}
 use Rattle.survey.proofs.CountLaws.{ways_next, count_by}
 use Rattle.records.specs.declared.verdicts.Verdict as code
-use Rattle.covers.specs.Table.{EntriesFit, indexOf}
-use Rattle.covers.proofs.TableLaws.{accepted-table}
+use Rattle.covers.specs.Table.{EntriesFit, index_of}
+use Rattle.covers.proofs.TableLaws.{accepted_table}
 use Rattle.records.specs.Places.{place_in}
 use Rattle.records.specs.declared.places.Place.{Place}
 use Rattle.records.specs.declared.places.Place.TheVariants.{At, Nowhere}
 
 module _ (s : Setup) where
-  abbrev cellTest : Test
-  cellTest = record { places = cells s; fails = λ i. not (cellFits s i); called = cellNumbers }
+  abbrev cell_test : Test
+  cell_test = record { places = cells s; fails = λ i. not (cell_fits s i); called = cell_numbers }
 
-  abbrev ringTest : Test
-  ringTest = record { places = cells s; fails = λ i. onRing (cells s) (next s) i; called = ring }
+  abbrev ring_test : Test
+  ring_test = record { places = cells s; fails = λ i. on_ring (cells s) (next s) i; called = ring }
 
   -- the tests after the cover table's
   abbrev later : List Test
-  later = cellTest ∷ ringTest ∷ single (climateFits s.climate) climate ∷ []
+  later = cell_test ∷ ring_test ∷ single (climate_fits s.climate) climate ∷ []
 
   -- a refusal, in the code's own words
-  refuse : (lent ways₀ : List ℕ) (why : Refusal) (slots ways order : List ℕ) → verdict (mapTests s) ≡ refused why
-      → Chart s lent ways₀ (Refused (refusalIn why)) slots ways order
+  refuse : (lent ways₀ : List ℕ) (why : Refusal) (slots ways order : List ℕ) → verdict (map_tests s) ≡ refused why
+      → Chart s lent ways₀ (Refused (refusal_in why)) slots ways order
   refuse lent ways₀ why slots ways order v =
       record {
-        verdict-is = sym (ap verdictIn v);
+        verdict_is = sym (ap verdict_in v);
         mapped = λ a. absurd (let z : ◌≡◌ {A = ℕ} 0 1 = cc in omega arith);
       }
 
-  pub table-refuses : (lent ways₀ : List ℕ) (r : code.Verdict) (slots ways order : List ℕ) → r ≡ verdictIn (verdict (coverTest s.covers ∷ []))
+  pub table_refuses : (lent ways₀ : List ℕ) (r : code.Verdict) (slots ways order : List ℕ) → r ≡ verdict_in (verdict (cover_test s.covers ∷ []))
       → (r ≡ Accepted → ⊥) → Chart s lent ways₀ r slots ways order
-  unfolding mapTests
-  table-refuses lent ways₀ r slots ways order e not = go (verdict (coverTest s.covers ∷ [])) refl
+  unfolding map_tests
+  table_refuses lent ways₀ r slots ways order e not = go (verdict (cover_test s.covers ∷ [])) refl
     where
-      go : (v : Verdict) → verdict (coverTest s.covers ∷ []) ≡ v → Chart s lent ways₀ r slots ways order
-      go accepted q = absurd (not (e ∙ ap verdictIn q))
+      go : (v : Verdict) → verdict (cover_test s.covers ∷ []) ≡ v → Chart s lent ways₀ r slots ways order
+      go accepted q = absurd (not (e ∙ ap verdict_in q))
       go (refused why) q =
-          rw (e ∙ ap verdictIn q) (refuse lent ways₀ why slots ways order (refused-then later (coverTest s.covers ∷ []) why q))
+          rw (e ∙ ap verdict_in q) (refuse lent ways₀ why slots ways order (refused_then later (cover_test s.covers ∷ []) why q))
 
-  module _ (table : verdict (coverTest s.covers ∷ []) ≡ accepted) where
-    covers-pass : verdict (mapTests s) ≡ verdict later
-    unfolding mapTests
-    covers-pass = accepted-then later (coverTest s.covers ∷ []) table
+  module _ (table : verdict (cover_test s.covers ∷ []) ≡ accepted) where
+    covers_pass : verdict (map_tests s) ≡ verdict later
+    unfolding map_tests
+    covers_pass = accepted_then later (cover_test s.covers ∷ []) table
 
-    cell-bad : (i : ℕ) → lowest (cells s) (λ k. not (cellFits s k)) ≡ at i → verdict (mapTests s) ≡ refused (cellNumbers i)
-    cell-bad i found = covers-pass ∙ fail-many _ cellTest i found
+    cell_bad : (i : ℕ) → lowest (cells s) (λ k. not (cell_fits s k)) ≡ at i → verdict (map_tests s) ≡ refused (cell_numbers i)
+    cell_bad i found = covers_pass ∙ fail_many _ cell_test i found
 
-    module _ (fit : lowest (cells s) (λ k. not (cellFits s k)) ≡ nowhere) where
-      cells-pass : verdict (mapTests s) ≡ verdict (ringTest ∷ single (climateFits s.climate) climate ∷ [])
-      cells-pass = covers-pass ∙ pass-many _ cellTest fit
+    module _ (fit : lowest (cells s) (λ k. not (cell_fits s k)) ≡ nowhere) where
+      cells_pass : verdict (map_tests s) ≡ verdict (ring_test ∷ single (climate_fits s.climate) climate ∷ [])
+      cells_pass = covers_pass ∙ pass_many _ cell_test fit
 
-      ring-bad : (i : ℕ) → lowest (cells s) (onRing (cells s) (next s)) ≡ at i → verdict (mapTests s) ≡ refused (ring i)
-      ring-bad i found = cells-pass ∙ fail-many _ ringTest i found
+      ring_bad : (i : ℕ) → lowest (cells s) (on_ring (cells s) (next s)) ≡ at i → verdict (map_tests s) ≡ refused (ring i)
+      ring_bad i found = cells_pass ∙ fail_many _ ring_test i found
 
-      module _ (free : lowest (cells s) (onRing (cells s) (next s)) ≡ nowhere) where
-        climate-bad : climateFits s.climate ≡ false → verdict (mapTests s) ≡ refused climate
-        climate-bad e = cells-pass ∙ pass-many _ ringTest free ∙ fail-single _ _ climate e
+      module _ (free : lowest (cells s) (on_ring (cells s) (next s)) ≡ nowhere) where
+        climate_bad : climate_fits s.climate ≡ false → verdict (map_tests s) ≡ refused climate
+        climate_bad e = cells_pass ∙ pass_many _ ring_test free ∙ fail_single _ _ climate e
 
-        all_pass : climateFits s.climate ≡ true → verdict (mapTests s) ≡ accepted
+        all_pass : climate_fits s.climate ≡ true → verdict (map_tests s) ≡ accepted
         unfolding verdict
-        all_pass e = cells-pass ∙ pass-many (single (climateFits s.climate) climate ∷ []) ringTest free ∙ pass-single [] _ climate e
+        all_pass e = cells_pass ∙ pass_many (single (climate_fits s.climate) climate ∷ []) ring_test free ∙ pass_single [] _ climate e
 
 -- the arrays, stage by stage
-module _ (s : Setup) (lent ways₀ : List ℕ) (pre : Surveyable s) (table : verdict (coverTest s.covers ∷ []) ≡ accepted)
-    (index : List ℕ) (known : index ≡ indexOf s.covers (entries s.covers))
-    (slots-sized : length lent ≡ 4096) (ways-sized : length ways₀ ≡ 4096) where
+module _ (s : Setup) (lent ways₀ : List ℕ) (pre : Surveyable s) (table : verdict (cover_test s.covers ∷ []) ≡ accepted)
+    (index : List ℕ) (known : index ≡ index_of s.covers (entries s.covers))
+    (slots_sized : length lent ≡ 4096) (ways_sized : length ways₀ ≡ 4096) where
   fit : EntriesFit s.covers
-  fit = accepted-table s.covers table
+  fit = accepted_table s.covers table
 
   abbrev slot : ℕ → ℕ
   slot = slot_at index s.cover s.group s.available
 
   abbrev way : ℕ → ℕ
-  way = wayAt s.grid.width s.grid.height s.covers slot s.direction
+  way = way_at s.grid.width s.grid.height s.covers slot s.direction
 
-  pub lay-ask : Layable s.grid.width s.grid.height index s.covers s.direction s.cover s.group s.available lent ways₀
+  pub lay_ask : Layable s.grid.width s.grid.height index s.covers s.direction s.cover s.group s.available lent ways₀
   unfolding cells_of
-  lay-ask =
+  lay_ask =
       record {
         wide = pre.wide;
         few = pre.few;
-        indexed = index-fits s.covers index fit known;
-        entered = index-entered s.covers index fit known;
+        indexed = index_fits s.covers index fit known;
+        entered = index_entered s.covers index fit known;
         directions = pre.directions;
         coded = pre.covers;
         grouped = pre.groups;
         watered = pre.waters;
-        slots-sized = slots-sized;
-        ways-sized = ways-sized;
+        slots_sized = slots_sized;
+        ways_sized = ways_sized;
       }
 
   module _ (r : Place) (slots ways counts : List ℕ) (lb : LaidOrBad (s.grid.width * s.grid.height) slot way r lent slots ways₀ ways counts) where
-    search_is : r ≡ place_in (lowest (cells s) (λ i. not (cellFits s i)))
+    search_is : r ≡ place_in (lowest (cells s) (λ i. not (cell_fits s i)))
     unfolding cells_of
-    search_is = lb.lowest-bad ∙ ap place_in (lowest-cong (cells s) _ _ (λ i h. slot-test s index fit known i))
+    search_is = lb.lowest_bad ∙ ap place_in (lowest_cong (cells s) _ _ (λ i h. slot_test s index fit known i))
 
-    pub cell-refuses : (i : ℕ) (order : List ℕ) → r ≡ At i → Chart s lent ways₀ (Refused (refusalIn (cellNumbers i))) slots ways order
-    cell-refuses i order e = refuse s lent ways₀ (cellNumbers i) slots ways order (cell-bad s table i (found_at _ i (sym e ∙ search_is)))
+    pub cell_refuses : (i : ℕ) (order : List ℕ) → r ≡ At i → Chart s lent ways₀ (Refused (refusal_in (cell_numbers i))) slots ways order
+    cell_refuses i order e = refuse s lent ways₀ (cell_numbers i) slots ways order (cell_bad s table i (found_at _ i (sym e ∙ search_is)))
 
     module _ (through : r ≡ Nowhere) where
-      cells_fit : lowest (cells s) (λ k. not (cellFits s k)) ≡ nowhere
-      cells_fit = found-no _ (sym through ∙ search_is)
+      cells_fit : lowest (cells s) (λ k. not (cell_fits s k)) ≡ nowhere
+      cells_fit = found_no _ (sym through ∙ search_is)
 
       charted : Charted s
       charted =
@@ -135,66 +135,66 @@ module _ (s : Setup) (lent ways₀ : List ℕ) (pre : Surveyable s) (table : ver
             few = pre.few;
             sized = fit.sized;
             entered = fit.fit;
-            celled = λ i h. not-false _ (lowest-none _ _ cells_fit i h);
+            celled = λ i h. not-false _ (lowest_none _ _ cells_fit i h);
           }
 
-      slot-at : (i : ℕ) → i < cells s → slot i ≡ slot_of s i
-      slot-at i h = slot_is s index fit known i (charted.celled i h)
+      slot_at_lem : (i : ℕ) → i < cells s → slot i ≡ slot_of s i
+      slot_at_lem i h = slot_is s index fit known i (charted.celled i h)
 
-      slots-are : slots ≡ madeOver (cells s) (slot_of s) lent
-      unfolding madeOver cells_of
-      slots-are = lb.slotted through ∙ ap (λ (l : List ℕ). l ++ drop (cells s) lent) (made-cong (cells s) slot (slot_of s) slot-at)
+      slots_are : slots ≡ made_over (cells s) (slot_of s) lent
+      unfolding made_over cells_of
+      slots_are = lb.slotted through ∙ ap (λ (l : List ℕ). l ++ drop (cells s) lent) (made_cong (cells s) slot (slot_of s) slot_at_lem)
 
-      slots-whole : length slots ≡ 4096
-      slots-whole = ap length slots-are ∙ over-length (cells s) (slot_of s) lent (omega (arith, slots-sized, pre.few)) ∙ slots-sized
+      slots_whole : length slots ≡ 4096
+      slots_whole = ap length slots_are ∙ over_length (cells s) (slot_of s) lent (omega (arith, slots_sized, pre.few)) ∙ slots_sized
 
-      ways-are : ways ≡ madeOver (cells s) (next s) ways₀
-      unfolding madeOver cells_of
-      ways-are =
+      ways_are : ways ≡ made_over (cells s) (next s) ways₀
+      unfolding made_over cells_of
+      ways_are =
           lb.laid through
-          ∙ ap (λ (l : List ℕ). l ++ drop (cells s) ways₀) (made-cong (cells s) way (next s) (λ i h. sym (way-is s charted i h slot (slot-at i h))))
+          ∙ ap (λ (l : List ℕ). l ++ drop (cells s) ways₀) (made_cong (cells s) way (next s) (λ i h. sym (way_is s charted i h slot (slot_at_lem i h))))
 
-      ways-whole : length ways ≡ 4096
-      ways-whole = ap length ways-are ∙ over-length (cells s) (next s) ways₀ (omega (arith, ways-sized, pre.few)) ∙ ways-sized
+      ways_whole : length ways ≡ 4096
+      ways_whole = ap length ways_are ∙ over_length (cells s) (next s) ways₀ (omega (arith, ways_sized, pre.few)) ∙ ways_sized
 
-      ways-point : nextAs (cells s) ways ≡ next s
-      ways-point = ap (nextAs (cells s)) ways-are ∙ ways_next (cells s) (next s) ways₀ (next_past s charted pre.directions pre.covers)
+      ways_point : next_as (cells s) ways ≡ next s
+      ways_point = ap (next_as (cells s)) ways_are ∙ ways_next (cells s) (next s) ways₀ (next_past s charted pre.directions pre.covers)
 
-      counts-are : Counted (cells s) (nextAs (cells s) ways) (cells s) counts
+      counts_are : Counted (cells s) (next_as (cells s) ways) (cells s) counts
       unfolding cells_of
-      counts-are = rw ways-point (count_by (lb.counted through) (next s) (λ i h. way-is s charted i h slot (slot-at i h)))
+      counts_are = rw ways_point (count_by (lb.counted through) (next s) (λ i h. way_is s charted i h slot (slot_at_lem i h)))
 
-      pub order-ask : WaysFit (length s.direction) ways × Counted (length s.direction) (nextAs (length s.direction) ways) (length s.direction) counts
-      order-ask = rw pre.directions (record { most = pre.few; sized = ways-whole }, counts-are)
+      pub order_ask : WaysFit (length s.direction) ways × Counted (length s.direction) (next_as (length s.direction) ways) (length s.direction) counts
+      order_ask = rw pre.directions (record { most = pre.few; sized = ways_whole }, counts_are)
 
-      module _ (found : Place) (order : List ℕ) (o : OrderOrRing (length s.direction) (nextAs (length s.direction) ways) found order) where
-        ring-is : found ≡ place_in (lowest (cells s) (onRing (cells s) (next s)))
-        ring-is = rw (pre.directions, ways-point) at o.ring
+      module _ (found : Place) (order : List ℕ) (o : OrderOrRing (length s.direction) (next_as (length s.direction) ways) found order) where
+        ring_is : found ≡ place_in (lowest (cells s) (on_ring (cells s) (next s)))
+        ring_is = rw (pre.directions, ways_point) at o.ring
 
         -- each way out after the order
-        pub ring-refuses : (i : ℕ) → found ≡ At i → Chart s lent ways₀ (Refused (refusalIn (ring i))) slots ways order
-        ring-refuses i e = refuse s lent ways₀ (ring i) slots ways order (ring-bad s table cells_fit i (found_at _ i (sym e ∙ ring-is)))
+        pub ring_refuses : (i : ℕ) → found ≡ At i → Chart s lent ways₀ (Refused (refusal_in (ring i))) slots ways order
+        ring_refuses i e = refuse s lent ways₀ (ring i) slots ways order (ring_bad s table cells_fit i (found_at _ i (sym e ∙ ring_is)))
 
         module _ (straight : found ≡ Nowhere) where
-          no-ring : lowest (cells s) (onRing (cells s) (next s)) ≡ nowhere
-          no-ring = found-no _ (sym straight ∙ ring-is)
+          no_ring : lowest (cells s) (on_ring (cells s) (next s)) ≡ nowhere
+          no_ring = found_no _ (sym straight ∙ ring_is)
 
-          ordered-by : OrderedBy (cells s) (next s) order
-          ordered-by = rw (pre.directions, ways-point) at (o.ordered straight)
+          ordered_by : OrderedBy (cells s) (next s) order
+          ordered_by = rw (pre.directions, ways_point) at (o.ordered straight)
 
-          pub climate-refuses : climateFits s.climate ≡ false → Chart s lent ways₀ (Refused (refusalIn climate)) slots ways order
-          climate-refuses e = refuse s lent ways₀ climate slots ways order (climate-bad s table cells_fit no-ring e)
+          pub climate_refuses : climate_fits s.climate ≡ false → Chart s lent ways₀ (Refused (refusal_in climate)) slots ways order
+          climate_refuses e = refuse s lent ways₀ climate slots ways order (climate_bad s table cells_fit no_ring e)
 
-          pub surveyed : climateFits s.climate ≡ true → Chart s lent ways₀ Accepted slots ways order
+          pub surveyed : climate_fits s.climate ≡ true → Chart s lent ways₀ Accepted slots ways order
           surveyed e =
               record {
-                verdict-is = sym (ap verdictIn (all_pass s table cells_fit no-ring e));
+                verdict_is = sym (ap verdict_in (all_pass s table cells_fit no_ring e));
                 mapped =
                     λ a. record {
-                      slots-are = slots-are;
-                      slots-sized = slots-whole;
-                      ways-are = ways-are;
-                      ways-sized = ways-whole;
-                      ordered = ordered-by;
+                      slots_are = slots_are;
+                      slots_sized = slots_whole;
+                      ways_are = ways_are;
+                      ways_sized = ways_whole;
+                      ordered = ordered_by;
                     };
               }

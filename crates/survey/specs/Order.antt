@@ -3,7 +3,7 @@
 -- the next cell waits for no other, and takes it as it joins the queue.
 use Rattle.std.specs.Prelude.{◌≡◌, Bool, false, cond, ◌&&◌, List, ℕ, ◌+◌, ◌*◌, ◌/◌, ◌%◌, ◌≤◌, ◌<◌, eqb, leb, ltb, length, get_or, set}
 use Rattle.theory.specs.Sums.{sum, given}
-use Rattle.theory.specs.Ways.{onRing}
+use Rattle.theory.specs.Ways.{on_ring}
 use Rattle.theory.specs.Lowest.{lowest}
 use Rattle.records.specs.declared.places.Place.{Place}
 use Rattle.records.specs.declared.places.Place.TheVariants.{Nowhere}
@@ -26,8 +26,8 @@ pub record Counted (n : ℕ) (next : ℕ → ℕ) (k : ℕ) (l : List ℕ) : Typ
   pub counts : (i : ℕ) → i < n → get_or l i 0 ≡ 8192 * sum k (leading next i)
 
 -- the cell to which the way leads, if it is one of the n, is to wait for one more
-unfoldable pub waitFor : ℕ → ℕ → List ℕ → List ℕ
-waitFor n way l = cond (ltb way n) (set l way (get_or l way 0 + 8192)) l
+unfoldable pub wait_for : ℕ → ℕ → List ℕ → List ℕ
+wait_for n way l = cond (ltb way n) (set l way (get_or l way 0 + 8192)) l
 
 -- the counts of n cells, and no queue
 pub record Blank (n : ℕ) (l : List ℕ) : Type 0 where
@@ -81,5 +81,5 @@ pub record PeeledHeld (n : ℕ) (next : ℕ → ℕ) (head sources tail : ℕ) (
 
 -- the lowest cell on a ring; and where there is none, the order
 pub record OrderOrRing (n : ℕ) (next : ℕ → ℕ) (r : Place) (l : List ℕ) : Type 0 where
-  pub ring : r ≡ place_in (lowest n (onRing n next))
+  pub ring : r ≡ place_in (lowest n (on_ring n next))
   pub ordered : r ≡ Nowhere → OrderedBy n next l

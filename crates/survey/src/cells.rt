@@ -1,6 +1,6 @@
 // The cells' own numbers, test 4, where each cell points, and how many lead to it.
 ghost use Rattle.std.specs.Prelude.{◌≡◌, ◌*◌, ◌≤◌, ◌<◌};
-ghost use Rattle.survey.specs.Cells.{slot_by, slot_at, IndexFits, wayFrom, wayAt, Layable, LaidOrBad};
+ghost use Rattle.survey.specs.Cells.{slot_by, slot_at, IndexFits, way_from, way_at, Layable, LaidOrBad};
 
 use crate::order::{none_waiting, wait_for};
 use crate::ways::{OPEN_WATER, way};
@@ -38,7 +38,7 @@ fn slot(index: &[u8; CODES], code: u32, group: u32, available: u32) -> usize
 // Where a cell of that row and column points: open water nowhere, whatever its byte.
 fn cell_way(width: u32, height: u32, row: u32, column: u32, lake: u32, byte: u32) -> u32
     requires { (row < height) × (column < width) × (width * height ≤ 4096) }
-    ensures { result ≡ wayFrom width height row column lake byte }
+    ensures { result ≡ way_from width height row column lake byte }
 {
     if lake == 1 {
         return OPEN_WATER;
@@ -64,7 +64,7 @@ pub(crate) fn lay_cells(
         slots.old ways.old }
     ensures { LaidOrBad (width * height)
         (slot_at index.now cover.now group.now available.now)
-        (wayAt width height covers.now
+        (way_at width height covers.now
         (slot_at index.now cover.now group.now available.now) direction.now)
         result slots.old slots.new ways.old ways.new order.new }
 {

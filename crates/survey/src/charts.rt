@@ -1,8 +1,8 @@
 // The survey of a setup: tests 1 to 6, and what a day needs of it: every cell's slot, where it points, and the order of the cells.
 ghost use Rattle.std.specs.Prelude.{◌≡◌};
-ghost use Rattle.paper.specs.Day.{checkOf};
-ghost use Rattle.records.specs.Grids.{setupAs};
-ghost use Rattle.records.specs.Verdicts.{verdictIn};
+ghost use Rattle.paper.specs.Day.{check_of};
+ghost use Rattle.records.specs.Grids.{setup_as};
+ghost use Rattle.records.specs.Verdicts.{verdict_in};
 ghost use Rattle.survey.specs.Charts.{Wiped, Surveyable, Chart, Surveyed};
 
 use crate::cells::lay_cells;
@@ -24,8 +24,8 @@ fn chart(
     ways: &mut [u32; MOST_CELLS],
     order: &mut [u32; MOST_CELLS],
 ) -> Verdict
-    requires { Surveyable (setupAs grid climate covers.now direction.now cover.now group.now available.now) }
-    ensures { Chart (setupAs grid climate covers.now direction.now cover.now group.now available.now)
+    requires { Surveyable (setup_as grid climate covers.now direction.now cover.now group.now available.now) }
+    ensures { Chart (setup_as grid climate covers.now direction.now cover.now group.now available.now)
         slots.old ways.old result slots.new ways.new order.new }
 {
     let mut index = [0u8; CODES];
@@ -82,7 +82,7 @@ pub fn survey(
     ways: &mut [u32; MOST_CELLS],
     order: &mut [u32; MOST_CELLS],
 ) -> Verdict
-    ensures { Surveyed (setupAs grid climate covers.now direction.now cover.now group.now available.now)
+    ensures { Surveyed (setup_as grid climate covers.now direction.now cover.now group.now available.now)
         slots.old ways.old result slots.new ways.new order.new }
 {
     if !grid.fits() {
@@ -119,8 +119,8 @@ pub fn check(
     group: &[u32],
     available: &[u32],
 ) -> Verdict
-    ensures { result ≡ verdictIn (checkOf
-        (setupAs grid climate covers.now direction.now cover.now group.now available.now)) }
+    ensures { result ≡ verdict_in (check_of
+        (setup_as grid climate covers.now direction.now cover.now group.now available.now)) }
 {
     let mut slots = [0u8; MOST_CELLS];
     let mut ways = [0u32; MOST_CELLS];

@@ -1,4 +1,6 @@
 // The setup: tests 1 to 6, and for every cell its slot in the cover table, where it points, and its turn upslope first.
+#![tactic(auto)]
+
 mod cells;
 mod charts;
 mod order;

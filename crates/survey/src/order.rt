@@ -1,10 +1,10 @@
 // The order of the cells, upslope first, by peeling in one array: entry i is 8192 times the number of cells that cell i still waits
 // for, plus the cell at place i of a queue of cells that wait for none. Where no ring is left over, the array ends as the order.
 ghost use Rattle.std.specs.Prelude.{◌≡◌, ◌≤◌, ◌<◌, ltb, length, get_or};
-ghost use Rattle.theory.specs.Lists.{madeOver};
+ghost use Rattle.theory.specs.Lists.{made_over};
 ghost use Rattle.theory.specs.Lowest.{lowest};
-ghost use Rattle.survey.specs.Charts.{nextAs, WaysFit};
-ghost use Rattle.survey.specs.Order.{OrderOrRing, waits, waitFor, Counted, Blank, GatheredHeld, PeeledHeld};
+ghost use Rattle.survey.specs.Charts.{next_as, WaysFit};
+ghost use Rattle.survey.specs.Order.{OrderOrRing, waits, wait_for, Counted, Blank, GatheredHeld, PeeledHeld};
 ghost use Rattle.records.specs.Places.{place_in};
 
 use records::{MOST_CELLS, Place, index_of};
@@ -15,7 +15,7 @@ const ONE: u32 = 8192;
 // No cell waits yet, and no queue stands there. The array is lent as a slice, whose length the prover knows.
 pub(crate) fn none_waiting(n: usize, order: &mut [u32])
     requires { n ≤ length order.old }
-    ensures { order.new ≡ madeOver n (λ i. 0) order.old }
+    ensures { order.new ≡ made_over n (λ i. 0) order.old }
 {
     let mut i = 0;
     while i < n {
@@ -27,7 +27,7 @@ pub(crate) fn none_waiting(n: usize, order: &mut [u32])
 // The cell to which the way leads, if it leads to one, is to wait for one more.
 pub(crate) fn wait_for(n: usize, way: u32, order: &mut [u32; MOST_CELLS])
     requires { (n ≤ 4096) × (way < n → get_or order.old way 0 ≤ 33554432) }
-    ensures { order.new ≡ waitFor n way order.old }
+    ensures { order.new ≡ wait_for n way order.old }
 {
     let j = index_of(way);
     if j < n {
@@ -56,8 +56,8 @@ fn sources(n: usize, order: &mut [u32; MOST_CELLS]) -> usize
 // one joins the queue and is taken at once, out of a local: through the queue, each step would wait for the last one's stores. Its own way is
 // read before the stores: entry j of both arrays can have the same place in a page, and a read just after such a store waits for it.
 fn peel(n: usize, ways: &[u32; MOST_CELLS], order: &mut [u32; MOST_CELLS], sources: usize) -> usize
-    requires { (WaysFit n ways.now) × (PeeledHeld n (nextAs n ways.now) 0 sources sources order.old) }
-    ensures { PeeledHeld n (nextAs n ways.now) sources sources result order.new }
+    requires { (WaysFit n ways.now) × (PeeledHeld n (next_as n ways.now) 0 sources sources order.old) }
+    ensures { PeeledHeld n (next_as n ways.now) sources sources result order.new }
 {
     let mut tail = sources;
     let mut head = 0;
@@ -105,8 +105,8 @@ pub(crate) fn put_in_order(
     ways: &[u32; MOST_CELLS],
     order: &mut [u32; MOST_CELLS],
 ) -> Place
-    requires { (WaysFit n ways.now) × (Counted n (nextAs n ways.now) n order.old) }
-    ensures { OrderOrRing n (nextAs n ways.now) result order.new }
+    requires { (WaysFit n ways.now) × (Counted n (next_as n ways.now) n order.old) }
+    ensures { OrderOrRing n (next_as n ways.now) result order.new }
 {
     let first = sources(n, order);
     let taken = peel(n, ways, order, first);

@@ -2,7 +2,7 @@
 ghost use Rattle.std.specs.Prelude.{◌≡◌, ◌*◌, ◌%◌, ◌≤◌, ◌<◌};
 ghost use Rattle.paper.specs.Directions.{way_of, stepped, cell_at};
 ghost use Rattle.paper.specs.Setup.{pointed};
-ghost use Rattle.survey.specs.Ways.{step_of, wayAs, goesFrom};
+ghost use Rattle.survey.specs.Ways.{step_of, way_as, goes_from};
 
 // Ways past every cell: over the edge, a closed depression, which keeps its water, and open water.
 pub const OVER_THE_EDGE: u32 = 4096;
@@ -55,7 +55,7 @@ fn toward(width: u32, height: u32, row: u32, column: u32, down: u32, right: u32)
 
 // The byte's two steps as one number, which the compiler finds in a table. Eight arms with code of their own would often be guessed wrong.
 fn steps(byte: u32) -> u32
-    ensures { (wayAs result ≡ way_of byte) × (result ≤ 12) × (result % 4 ≤ 2) }
+    ensures { (way_as result ≡ way_of byte) × (result ≤ 12) × (result % 4 ≤ 2) }
 {
     match byte {
         1 => RIGHT,
@@ -72,7 +72,7 @@ fn steps(byte: u32) -> u32
 
 pub(crate) fn way(width: u32, height: u32, row: u32, column: u32, byte: u32) -> u32
     requires { (row < height) × (column < width) × (width * height ≤ 4096) }
-    ensures { result ≡ pointed (goesFrom width height row column (way_of byte)) }
+    ensures { result ≡ pointed (goes_from width height row column (way_of byte)) }
 {
     let both = steps(byte);
     if both == NO_STEP {

@@ -5,34 +5,34 @@ use mathlib.Core.Bool.{true}
 use mathlib.Core.List.{[], ◌∷◌}
 use lib.IntN.{pos}
 use Rattle.theory.specs.Lists.{made}
-use Rattle.theory.specs.Lowest.{orAt, lowest, isFound, some}
+use Rattle.theory.specs.Lowest.{or_at, lowest, is_found, some}
 use Rattle.theory.specs.Sums.{sum, given}
-use Rattle.theory.specs.Ways.{walk, onRing}
-use Rattle.paper.specs.CellDay.{today, figureOf, interceptedOf, netOf, rainOf, store_of, meltOf, own_of, runoffOf, groundOf, passedOf, openDay, landDay, cellDay}
-use Rattle.paper.specs.Covers.{entries, sizeFits, groupFits, rises, entryFits}
-use Rattle.paper.specs.CurveNumber.{class, conditionOf, nearest, curveNumber}
-use Rattle.paper.specs.Frost.{floor, or_zero, frostAfter, notDry, counted}
-use Rattle.paper.specs.Day.{checkOf, freshAs, fresh_of, passed, own, inflow, figures, isLeaving, isGone, resultsOf, totalsOf, nextState, lengthsOf, verdictOf, figuresOf, outcomeAs, dayOf, noResults}
-use Rattle.paper.specs.Directions.{way_of, stepped, cell_at, goesBy}
-use Rattle.paper.specs.Flow.{arriving, waterFrom, water}
+use Rattle.theory.specs.Ways.{walk, on_ring}
+use Rattle.paper.specs.CellDay.{today, figure_of, intercepted_of, net_of, rain_of, store_of, melt_of, own_of, runoff_of, ground_of, passed_of, open_day, land_day, cell_day}
+use Rattle.paper.specs.Covers.{entries, size_fits, group_fits, rises, entry_fits}
+use Rattle.paper.specs.CurveNumber.{class, condition_of, nearest, curve_number}
+use Rattle.paper.specs.Frost.{floor, or_zero, frost_after, not_dry, counted}
+use Rattle.paper.specs.Day.{check_of, fresh_as, fresh_of, passed, own, inflow, figures, is_leaving, is_gone, results_of, totals_of, next_state, lengths_of, verdict_of, figures_of, outcome_as, day_of, no_results}
+use Rattle.paper.specs.Directions.{way_of, stepped, cell_at, goes_by}
+use Rattle.paper.specs.Flow.{arriving, water_from, water}
 use Rattle.paper.specs.Interception.{intercepted, net}
-use Rattle.paper.specs.Runoff.{beyondAbstraction, spread, runoff}
-use Rattle.paper.specs.Refusals.{number_of, place_of, single, judged, verdict, oneEach, setupLengths, coverPlaces, coverFits, mapTests, setupTests, stateFits, tooDeep, dayTests}
+use Rattle.paper.specs.Runoff.{beyond_abstraction, spread, runoff}
+use Rattle.paper.specs.Refusals.{number_of, place_of, single, judged, verdict, one_each, setup_lengths, cover_places, cover_fits, map_tests, setup_tests, state_fits, too_deep, day_tests}
 use Rattle.paper.specs.Retention.{F, between, L, loss}
-use Rattle.paper.specs.Setup.{cells_of, gridFits, seasonFits, setpointsFit, climateFits, growing, placeOr, entry_of, cellFits, isOpen, goes, pointed, next, isClosed, cell}
-use Rattle.paper.specs.Snow.{fallsAsSnow, aboveFreezing, meltable, melt}
-use Rattle.paper.specs.Soil.{excess, wetDay, dryDay, soilDay}
-use Rattle.paper.specs.State.{remembered, fiveDays, mostSoilOf, mostSnowOf, storesFit, memoryFits, lastFits, pastFits, dayFits, follows, freshState}
-use Rattle.text.specs.Examples.{lines, Agree, paperInput, examples}
-use Rattle.words.specs.Digits.{digitsWithin, digits, bytes}
-use Rattle.lines.specs.Lines.{row, dayLine, endLine, refusedLine, refusal}
-use Rattle.text.specs.Program.{coverCount, cellCount, cellsFrom, daysFrom, dayCount, is_complete, groupGiven, setup, dayAt, dayText, daysText, freshText, startText, runText, screen, screenText, numbersText, formText, printed}
-use Rattle.words.specs.Words.{isBlank, longer, pieces, kept, words}
-use Rattle.words.specs.Numbers.{isDigit, allDigits, spelled, isFirstDigit, isCount, is_zero, number}
+use Rattle.paper.specs.Setup.{cells_of, grid_fits, season_fits, setpoints_fit, climate_fits, growing, place_or, entry_of, cell_fits, is_open, goes, pointed, next, is_closed, cell}
+use Rattle.paper.specs.Snow.{falls_as_snow, above_freezing, meltable, melt}
+use Rattle.paper.specs.Soil.{excess, wet_day, dry_day, soil_day}
+use Rattle.paper.specs.State.{remembered, five_days, most_soil_of, most_snow_of, stores_fit, memory_fits, last_fits, past_fits, day_fits, follows, fresh_state}
+use Rattle.text.specs.Examples.{lines, Agree, paper_input, examples}
+use Rattle.words.specs.Digits.{digits_within, digits, bytes}
+use Rattle.lines.specs.Lines.{row, day_line, end_line, refused_line, refusal}
+use Rattle.text.specs.Program.{cover_count, cell_count, cells_from, days_from, day_count, is_complete, group_given, setup, day_at, day_text, days_text, fresh_text, start_text, run_text, screen, screen_text, numbers_text, form_text, printed}
+use Rattle.words.specs.Words.{is_blank, longer, pieces, kept, words}
+use Rattle.words.specs.Numbers.{is_digit, all_digits, spelled, is_first_digit, is_count, is_zero, number}
 use Rattle.lines.specs.Reading.{and_then, meant, reading, code, codes, signed}
 
-pub paper-read :
-    reading (lines paperInput)
+pub paper_read :
+    reading (lines paper_input)
     ≡ record {
       numbers =
           pos 2 ∷ pos 1 ∷ pos 120 ∷ pos 270
@@ -45,9 +45,9 @@ pub paper-read :
           ∷ [];
       whole = true;
     }
-unfolding lines bytes reading words pieces longer kept isBlank meant and_then number is_zero isCount isFirstDigit isDigit allDigits spelled
-paper-read = refl
+unfolding lines bytes reading words pieces longer kept is_blank meant and_then number is_zero is_count is_first_digit is_digit all_digits spelled
+paper_read = refl
 
-pub examples-agree : Agree examples
-unfolding made orAt lowest isFound some sum given walk onRing today figureOf interceptedOf netOf rainOf store_of meltOf own_of runoffOf groundOf passedOf openDay landDay cellDay entries sizeFits groupFits rises entryFits class conditionOf floor or_zero frostAfter notDry counted nearest curveNumber checkOf freshAs fresh_of passed own inflow figures isLeaving isGone resultsOf totalsOf nextState lengthsOf verdictOf figuresOf outcomeAs dayOf way_of stepped cell_at goesBy arriving waterFrom water intercepted net beyondAbstraction spread runoff number_of place_of single judged verdict oneEach setupLengths coverPlaces coverFits mapTests setupTests stateFits tooDeep dayTests F between L loss cells_of gridFits seasonFits setpointsFit climateFits growing placeOr entry_of cellFits isOpen goes pointed next isClosed cell fallsAsSnow aboveFreezing meltable melt excess wetDay dryDay soilDay remembered fiveDays mostSoilOf mostSnowOf storesFit memoryFits lastFits pastFits dayFits follows freshState lines Agree examples digitsWithin digits row dayLine bytes endLine refusedLine coverCount cellCount cellsFrom daysFrom dayCount is_complete groupGiven setup dayAt refusal noResults dayText daysText freshText startText runText screen screenText numbersText formText printed isBlank longer pieces kept words isDigit allDigits spelled isFirstDigit isCount is_zero number and_then meant reading code codes signed
-examples-agree = (refl, (refl, (refl, (refl, (refl, (refl, (refl, (refl, (refl, (refl, (refl, (refl, (refl, (refl, (refl, (refl, (refl, (refl, (refl, (refl, (refl, (refl, (refl, (refl, (refl, (refl, tt))))))))))))))))))))))))))
+pub examples_agree : Agree examples
+unfolding made or_at lowest is_found some sum given walk on_ring today figure_of intercepted_of net_of rain_of store_of melt_of own_of runoff_of ground_of passed_of open_day land_day cell_day entries size_fits group_fits rises entry_fits class condition_of floor or_zero frost_after not_dry counted nearest curve_number check_of fresh_as fresh_of passed own inflow figures is_leaving is_gone results_of totals_of next_state lengths_of verdict_of figures_of outcome_as day_of way_of stepped cell_at goes_by arriving water_from water intercepted net beyond_abstraction spread runoff number_of place_of single judged verdict one_each setup_lengths cover_places cover_fits map_tests setup_tests state_fits too_deep day_tests F between L loss cells_of grid_fits season_fits setpoints_fit climate_fits growing place_or entry_of cell_fits is_open goes pointed next is_closed cell falls_as_snow above_freezing meltable melt excess wet_day dry_day soil_day remembered five_days most_soil_of most_snow_of stores_fit memory_fits last_fits past_fits day_fits follows fresh_state lines Agree examples digits_within digits row day_line bytes end_line refused_line cover_count cell_count cells_from days_from day_count is_complete group_given setup day_at refusal no_results day_text days_text fresh_text start_text run_text screen screen_text numbers_text form_text printed is_blank longer pieces kept words is_digit all_digits spelled is_first_digit is_count is_zero number and_then meant reading code codes signed
+examples_agree = (refl, (refl, (refl, (refl, (refl, (refl, (refl, (refl, (refl, (refl, (refl, (refl, (refl, (refl, (refl, (refl, (refl, (refl, (refl, (refl, (refl, (refl, (refl, (refl, (refl, (refl, tt))))))))))))))))))))))))))

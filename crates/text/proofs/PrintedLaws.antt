@@ -7,12 +7,12 @@ use lib.Dec.{ltb}
 use lib.ListN.{length, take}
 use lib.Seq.{length-sets}
 use borrow.Author.Tests.{lt-ltb, le-ltb}
-use Rattle.theory.proofs.Cases.{byCases, below_or_not}
-use Rattle.lines.specs.Lines.{refusedLine}
-use Rattle.text.specs.Program.{runText, screen, screenText, numbersText, formText, printed}
-use Rattle.lines.specs.Reading.{mostBytes, given, codes}
-use Rattle.text.specs.Run.{mostText, Printed}
-use Rattle.text.specs.Taking.{takenIn, taken_of, TakenUp}
+use Rattle.theory.proofs.Cases.{by_cases, below_or_not}
+use Rattle.lines.specs.Lines.{refused_line}
+use Rattle.text.specs.Program.{run_text, screen, screen_text, numbers_text, form_text, printed}
+use Rattle.lines.specs.Reading.{most_bytes, given, codes}
+use Rattle.text.specs.Run.{most_text, Printed}
+use Rattle.text.specs.Taking.{taken_in, taken_of, TakenUp}
 use Rattle.words.specs.Writing.{Wrote}
 use Rattle.text.specs.declared.screening.Screened.{Screened}
 use Rattle.text.specs.declared.screening.Screened.TheVariants as screened
@@ -24,64 +24,64 @@ use Rattle.text.specs.declared.program.Written.TheVariants.{NoRoom, Bytes}
 use Rattle.text.proofs.TakingLaws.{ReadyText}
 
 -- what is printed of a text that is taken up
-unfoldable takenText : List ℕ → Taken → List ℕ
-takenText ns (Refused number place) = refusedLine number place
-takenText ns (Ready layout) = runText ns
+unfoldable taken_text : List ℕ → Taken → List ℕ
+taken_text ns (Refused number place) = refused_line number place
+taken_text ns (Ready layout) = run_text ns
 
-screened-text : (ns : List ℕ) (s : Screened) → screenText ns s ≡ takenText ns (takenIn ns s)
-unfolding screenText takenIn takenText
-screened-text ns (screened.Refused number place) = refl
-screened-text ns (screened.Ready cells) = refl
+screened_text : (ns : List ℕ) (s : Screened) → screen_text ns s ≡ taken_text ns (taken_in ns s)
+unfolding screen_text taken_in taken_text
+screened_text ns (screened.Refused number place) = refl
+screened_text ns (screened.Ready cells) = refl
 
 module _ (input : List ℕ) where
   -- length first, then form: of a text that is too long no number is read
-  of-given : printed input ≡ formText (given input)
-  unfolding printed formText given
-  of-given = byCases (ltb mostBytes (length input)) (λ e. rw e refl) (λ e. rw e refl)
+  of_given : printed input ≡ form_text (given input)
+  unfolding printed form_text given
+  of_given = by_cases (ltb most_bytes (length input)) (λ e. rw e refl) (λ e. rw e refl)
 
-  taken-text : printed input ≡ takenText (codes (given input).numbers) (taken_of (given input))
-  unfolding formText numbersText taken_of takenText
-  taken-text =
+  taken_text_lem : printed input ≡ taken_text (codes (given input).numbers) (taken_of (given input))
+  unfolding form_text numbers_text taken_of taken_text
+  taken_text_lem =
       let ns = codes (given input).numbers in
-      of-given ∙ byCases (given input).whole (λ e. rw e (screened-text ns (screen ns))) (λ e. rw e refl)
+      of_given ∙ by_cases (given input).whole (λ e. rw e (screened_text ns (screen ns))) (λ e. rw e refl)
 
   module _ (before after : List ℕ) (t : Taken) (up : TakenUp input before after t) where
-    pub text-refused : (number place : ℕ) → t ≡ Refused number place → printed input ≡ refusedLine number place
-    unfolding takenText
-    text-refused number place e = taken-text ∙ ap (takenText (codes (given input).numbers)) (sym up.answer ∙ e)
+    pub text_refused : (number place : ℕ) → t ≡ Refused number place → printed input ≡ refused_line number place
+    unfolding taken_text
+    text_refused number place e = taken_text_lem ∙ ap (taken_text (codes (given input).numbers)) (sym up.answer ∙ e)
 
-    pub text-runs : (layout : Layout) → t ≡ Ready layout → ReadyText input after layout → printed input ≡ runText (take layout.numbers after)
-    unfolding takenText
-    text-runs layout e ready = taken-text ∙ ap (takenText (codes (given input).numbers)) (sym up.answer ∙ e) ∙ ap runText (sym ready.same)
+    pub text_runs : (layout : Layout) → t ≡ Ready layout → ReadyText input after layout → printed input ≡ run_text (take layout.numbers after)
+    unfolding taken_text
+    text_runs layout e ready = taken_text_lem ∙ ap (taken_text (codes (given input).numbers)) (sym up.answer ∙ e) ∙ ap run_text (sym ready.same)
 
-  pub no_room : (before : List ℕ) → length before < mostText → Printed input before before NoRoom
+  pub no_room : (before : List ℕ) → length before < most_text → Printed input before before NoRoom
   no_room before h =
       record {
-        answer = rw (lt-ltb (length before) mostText h) refl;
-        buffer = rw (lt-ltb (length before) mostText h) refl;
+        answer = rw (lt-ltb (length before) most_text h) refl;
+        buffer = rw (lt-ltb (length before) most_text h) refl;
         short = λ room. absurd (omega arith);
       }
 
-  pub with-room :
-      (before after : List ℕ) (next : ℕ) → mostText ≤ length before → Wrote mostText 0 (printed input) before after next
+  pub with_room :
+      (before after : List ℕ) (next : ℕ) → most_text ≤ length before → Wrote most_text 0 (printed input) before after next
       → Printed input before after (Bytes next)
-  with-room before after next h w =
+  with_room before after next h w =
       let count : next ≡ length (printed input) = omega (arith, w.put.end, w.short) in
       record {
-        answer = rw (le-ltb (length before) mostText h) (ap Bytes count);
-        buffer = rw (le-ltb (length before) mostText h) w.put.buffer;
+        answer = rw (le-ltb (length before) most_text h) (ap Bytes count);
+        buffer = rw (le-ltb (length before) most_text h) w.put.buffer;
         short = λ room. w.short;
       }
 
   -- the count that is answered lies within the buffer
-  pub text-within : {before after : List ℕ} {r : Written} (n : ℕ) → Printed input before after r → r ≡ Bytes n → n ≤ length after
-  text-within {before} {after} n p e =
-      below_or_not (length before) mostText
+  pub text_within : {before after : List ℕ} {r : Written} (n : ℕ) → Printed input before after r → r ≡ Bytes n → n ≤ length after
+  text_within {before} {after} n p e =
+      below_or_not (length before) most_text
       (λ h.
-      let none : NoRoom ≡ Bytes n = sym (rw (lt-ltb (length before) mostText h) at p.answer) ∙ e in
+      let none : NoRoom ≡ Bytes n = sym (rw (lt-ltb (length before) most_text h) at p.answer) ∙ e in
       absurd (let z : ◌≡◌ {A = ℕ} 0 1 = cc in omega arith))
       (λ h.
-      let bytes : Bytes (length (printed input)) ≡ Bytes n = sym (rw (le-ltb (length before) mostText h) at p.answer) ∙ e in
+      let bytes : Bytes (length (printed input)) ≡ Bytes n = sym (rw (le-ltb (length before) most_text h) at p.answer) ∙ e in
       let count : n ≡ length (printed input) = cc in
-      let long = ap length (rw (le-ltb (length before) mostText h) at p.buffer) ∙ length-sets before 0 (printed input) in
+      let long = ap length (rw (le-ltb (length before) most_text h) at p.buffer) ∙ length-sets before 0 (printed input) in
       omega (arith, p.short h))

@@ -7,88 +7,88 @@ use native.Mathlib.Omega.{arith}
 use lib.Dec.{leb, eqb}
 use lib.ListN.{length}
 use borrow.Author.Tests.{lt-ltb, le-ltb, leb-true}
-use Rattle.theory.proofs.Cases.{byCases, below_or_not, and_left, and_right}
-use Rattle.paper.specs.Setup.{cells_of, gridFits}
-use Rattle.text.specs.Program.{field, coverCount, cellCount, cellsFrom, daysFrom, is_complete, setup, screen}
+use Rattle.theory.proofs.Cases.{by_cases, below_or_not, and_left, and_right}
+use Rattle.paper.specs.Setup.{cells_of, grid_fits}
+use Rattle.text.specs.Program.{field, cover_count, cell_count, cells_from, days_from, is_complete, setup, screen}
 use Rattle.text.specs.Run.{Complete}
-use Rattle.text.specs.Taking.{layoutIn}
+use Rattle.text.specs.Taking.{layout_in}
 use Rattle.text.specs.declared.screening.Screened.TheVariants.{Refused, Ready}
 
 -- the tests as the code has them
-abbrev pub gridTakes : ℕ → ℕ → Bool
-gridTakes width height = gridFits (record { width = width; height = height })
+abbrev pub grid_takes : ℕ → ℕ → Bool
+grid_takes width height = grid_fits (record { width = width; height = height })
 
-abbrev pub coversTake : ℕ → Bool
-coversTake count = leb 1 count && leb count 64
+abbrev pub covers_take : ℕ → Bool
+covers_take count = leb 1 count && leb count 64
 
 abbrev pub needs : List ℕ → ℕ
 needs ns = 5 + 16 * field ns 4 + 4 * (field ns 0 * field ns 1)
 
-abbrev pub hasAll : ℕ → ℕ → Bool
-hasAll count needed = leb needed count && eqb ((count - needed) % 7) 0
+abbrev pub has_all : ℕ → ℕ → Bool
+has_all count needed = leb needed count && eqb ((count - needed) % 7) 0
 
 module _ (ns : List ℕ) where
-  pub few-cells : gridTakes (field ns 0) (field ns 1) ≡ true → field ns 0 * field ns 1 ≤ 4096
-  unfolding gridFits cells_of
-  few-cells e = leb-true (field ns 0 * field ns 1) 4096 (and_right (leb 1 (field ns 0) && leb 1 (field ns 1)) (leb (field ns 0 * field ns 1) 4096) e)
+  pub few_cells : grid_takes (field ns 0) (field ns 1) ≡ true → field ns 0 * field ns 1 ≤ 4096
+  unfolding grid_fits cells_of
+  few_cells e = leb-true (field ns 0 * field ns 1) 4096 (and_right (leb 1 (field ns 0) && leb 1 (field ns 1)) (leb (field ns 0 * field ns 1) 4096) e)
 
-  pub few-covers : coversTake (field ns 4) ≡ true → field ns 4 ≤ 64
-  few-covers e = leb-true (field ns 4) 64 (and_right (leb 1 (field ns 4)) (leb (field ns 4) 64) e)
+  pub few_covers : covers_take (field ns 4) ≡ true → field ns 4 ≤ 64
+  few_covers e = leb-true (field ns 4) 64 (and_right (leb 1 (field ns 4)) (leb (field ns 4) 64) e)
 
   pub too_few : length ns < 2 → Refused 11 (length ns) ≡ screen ns
   unfolding screen
   too_few h = simp (lt-ltb (length ns) 2 h)
 
   module _ (two : 2 ≤ length ns) where
-    pub no-grid : gridTakes (field ns 0) (field ns 1) ≡ false → Refused 1 0 ≡ screen ns
+    pub no_grid : grid_takes (field ns 0) (field ns 1) ≡ false → Refused 1 0 ≡ screen ns
     unfolding screen setup
-    no-grid e = simp (le-ltb (length ns) 2 two, e)
+    no_grid e = simp (le-ltb (length ns) 2 two, e)
 
-    module _ (grid : gridTakes (field ns 0) (field ns 1) ≡ true) where
-      pub no-covers : length ns < 5 → Refused 11 (length ns) ≡ screen ns
+    module _ (grid : grid_takes (field ns 0) (field ns 1) ≡ true) where
+      pub no_covers : length ns < 5 → Refused 11 (length ns) ≡ screen ns
       unfolding screen setup
-      no-covers h = simp (le-ltb (length ns) 2 two, grid, lt-ltb (length ns) 5 h)
+      no_covers h = simp (le-ltb (length ns) 2 two, grid, lt-ltb (length ns) 5 h)
 
       module _ (five : 5 ≤ length ns) where
-        pub bad-count : coversTake (field ns 4) ≡ false → Refused 3 0 ≡ screen ns
-        unfolding screen setup coverCount
-        bad-count e = simp (le-ltb (length ns) 2 two, grid, le-ltb (length ns) 5 five, e)
+        pub bad_count : covers_take (field ns 4) ≡ false → Refused 3 0 ≡ screen ns
+        unfolding screen setup cover_count
+        bad_count e = simp (le-ltb (length ns) 2 two, grid, le-ltb (length ns) 5 five, e)
 
-        module _ (covers : coversTake (field ns 4) ≡ true) where
-          pub cut_off : hasAll (length ns) (needs ns) ≡ false → Refused 11 (length ns) ≡ screen ns
-          unfolding screen setup coverCount is_complete daysFrom cellsFrom cellCount
+        module _ (covers : covers_take (field ns 4) ≡ true) where
+          pub cut_off : has_all (length ns) (needs ns) ≡ false → Refused 11 (length ns) ≡ screen ns
+          unfolding screen setup cover_count is_complete days_from cells_from cell_count
           cut_off e = simp (le-ltb (length ns) 2 two, grid, le-ltb (length ns) 5 five, covers, e)
 
-          pub is-ready : hasAll (length ns) (needs ns) ≡ true → Ready (field ns 0 * field ns 1) ≡ screen ns
-          unfolding screen setup coverCount is_complete daysFrom cellsFrom cellCount
-          is-ready e = simp (le-ltb (length ns) 2 two, grid, le-ltb (length ns) 5 five, covers, e)
+          pub is_ready : has_all (length ns) (needs ns) ≡ true → Ready (field ns 0 * field ns 1) ≡ screen ns
+          unfolding screen setup cover_count is_complete days_from cells_from cell_count
+          is_ready e = simp (le-ltb (length ns) 2 two, grid, le-ltb (length ns) 5 five, covers, e)
 
 -- numbers that pass are all there, and so many that every sum of them is small
-pub ready : (ns : List ℕ) (k : ℕ) → screen ns ≡ Ready k → (k ≡ cellCount ns) × Complete ns (layoutIn ns)
-unfolding coverCount cellCount daysFrom cellsFrom
+pub ready : (ns : List ℕ) (k : ℕ) → screen ns ≡ Ready k → (k ≡ cell_count ns) × Complete ns (layout_in ns)
+unfolding cover_count cell_count days_from cells_from
 ready ns k e =
     below_or_not (length ns) 2 (λ h. never (too_few ns h))
     (λ two.
-    byCases (gridTakes (field ns 0) (field ns 1))
+    by_cases (grid_takes (field ns 0) (field ns 1))
     (λ grid.
-    below_or_not (length ns) 5 (λ h. never (no-covers ns two grid h))
+    below_or_not (length ns) 5 (λ h. never (no_covers ns two grid h))
     (λ five.
-    byCases (coversTake (field ns 4))
+    by_cases (covers_take (field ns 4))
     (λ covers.
-    byCases (hasAll (length ns) (needs ns))
+    by_cases (has_all (length ns) (needs ns))
     (λ all.
-    let r : Ready (field ns 0 * field ns 1) ≡ Ready k = is-ready ns two grid five covers all ∙ e in (
+    let r : Ready (field ns 0 * field ns 1) ≡ Ready k = is_ready ns two grid five covers all ∙ e in (
       (cc),
       record {
         placed = refl;
-        cells = few-cells ns grid;
-        covers = few-covers ns covers;
+        cells = few_cells ns grid;
+        covers = few_covers ns covers;
         numbers = leb-true (needs ns) (length ns) (and_left (leb (needs ns) (length ns)) (eqb ((length ns - needs ns) % 7) 0) all);
       },
     ))
     (λ f. never (cut_off ns two grid five covers f)))
-    (λ f. never (bad-count ns two grid five f))))
-    (λ f. never (no-grid ns two f)))
+    (λ f. never (bad_count ns two grid five f))))
+    (λ f. never (no_grid ns two f)))
   where
     never : {n p : ℕ} {P : Type 0} → Refused n p ≡ screen ns → P
     never {n} {p} r = absurd (let both : Refused n p ≡ Ready k = r ∙ e in let z : ◌≡◌ {A = ℕ} 0 1 = cc in omega arith)

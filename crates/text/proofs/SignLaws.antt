@@ -9,45 +9,45 @@ use mir.Val.{SFits, to_z, of_z}
 use mir.Facts.{to_z-of_z, to_z_pos}
 use borrow.Author.Tests.{lt-ltb, le-ltb}
 use Rattle.theory.proofs.Cases.{below_or_not}
-use Rattle.lines.specs.Reading.{negatives, noNumber, signed}
+use Rattle.lines.specs.Reading.{negatives, no_number, signed}
 use Rattle.text.specs.Laying.{degrees}
 
-below-zero : (c : ℕ) → negatives < c → pos 1000000000 -ℤ pos c ≡ negsuc (c - (negatives + 1))
-below-zero zero h = absurd (not-suc-le-zero h)
-below-zero (suc k) h = rw (lt-ltb negatives (suc k) h) refl
+below_zero : (c : ℕ) → negatives < c → pos 1000000000 -ℤ pos c ≡ negsuc (c - (negatives + 1))
+below_zero zero h = absurd (not-suc-le-zero h)
+below_zero (suc k) h = rw (lt-ltb negatives (suc k) h) refl
 
 -- a code of a number is read as that number
-pub small-degrees : (c : ℕ) → c < noNumber → degrees c ≡ signed c
+pub small_degrees : (c : ℕ) → c < no_number → degrees c ≡ signed c
 unfolding degrees
-small-degrees c small = ap signed (omega arith)
+small_degrees c small = ap signed (omega arith)
 
-module _ (c : ℕ) (small : c < noNumber) where
+module _ (c : ℕ) (small : c < no_number) where
   plain : to_z w32 c ≡ pos c
   plain = to_z_pos w32 (omega arith)
 
-  pub minus-fits : negatives < c → SFits w32 (pos 1000000000 -ℤ to_z w32 c)
-  minus-fits h = rw (plain, below-zero c h) (record { sfits = omega arith })
+  pub minus_fits : negatives < c → SFits w32 (pos 1000000000 -ℤ to_z w32 c)
+  minus_fits h = rw (plain, below_zero c h) (record { sfits = omega arith })
 
-  pub minus-degrees : negatives < c → to_z w32 (of_z w32 (pos 1000000000 -ℤ to_z w32 c)) ≡ degrees c
+  pub minus_degrees : negatives < c → to_z w32 (of_z w32 (pos 1000000000 -ℤ to_z w32 c)) ≡ degrees c
   unfolding signed
-  minus-degrees h = to_z-of_z (minus-fits h) ∙ rw (small-degrees c small, plain, below-zero c h, lt-ltb negatives c h) refl
+  minus_degrees h = to_z-of_z (minus_fits h) ∙ rw (small_degrees c small, plain, below_zero c h, lt-ltb negatives c h) refl
 
-  pub plain-degrees : c ≤ negatives → to_z w32 c ≡ degrees c
+  pub plain_degrees : c ≤ negatives → to_z w32 c ≡ degrees c
   unfolding signed
-  plain-degrees h = rw (small-degrees c small) (plain ∙ rw (le-ltb negatives c h) refl)
+  plain_degrees h = rw (small_degrees c small) (plain ∙ rw (le-ltb negatives c h) refl)
 
-  signed-fits : SFits w32 (signed c)
+  signed_fits : SFits w32 (signed c)
   unfolding signed
-  signed-fits =
+  signed_fits =
       below_or_not negatives c (λ h. rw (lt-ltb negatives c h) (record { sfits = omega arith }))
       (λ h. rw (le-ltb negatives c h) (record { sfits = omega arith }))
 
 -- from there on every code is the lowest number
-pub none-degrees : (c : ℕ) → noNumber ≤ c → negsuc 999999998 ≡ degrees c
+pub none_degrees : (c : ℕ) → no_number ≤ c → negsuc 999999998 ≡ degrees c
 unfolding degrees signed
-none-degrees c h = let most : min c (noNumber - 1) ≡ 1999999999 = omega arith in rw most refl
+none_degrees c h = let most : min c (no_number - 1) ≡ 1999999999 = omega arith in rw most refl
 
 -- kept in a field of a record
-pub degrees-kept : (c : ℕ) (z : ℤ) → z ≡ degrees c → to_z w32 (of_z w32 z) ≡ degrees c
+pub degrees_kept : (c : ℕ) (z : ℤ) → z ≡ degrees c → to_z w32 (of_z w32 z) ≡ degrees c
 unfolding degrees
-degrees-kept c z e = to_z-of_z (rw e (signed-fits (min c (noNumber - 1)) (omega arith))) ∙ e
+degrees_kept c z e = to_z-of_z (rw e (signed_fits (min c (no_number - 1)) (omega arith))) ∙ e

@@ -6,13 +6,13 @@ use Prim.Native.Nat.{ℕ, ◌+◌, ◌*◌, ◌-◌, ◌/◌, ◌≤◌}
 use native.Mathlib.Omega.{arith}
 use lib.ListN.{length, take}
 use lib.Seq.{length-sets}
-use Rattle.theory.proofs.Cases.{byCases}
-use Rattle.lines.specs.Reading.{Reading, given, codes, mostNumbers, formIn, Read}
+use Rattle.theory.proofs.Cases.{by_cases}
+use Rattle.lines.specs.Reading.{Reading, given, codes, most_numbers, form_in, Read}
 use Rattle.lines.specs.declared.reading.Form.{Form}
 use Rattle.lines.specs.declared.reading.Form.TheVariants.{Whole, Broken}
-use Rattle.lines.proofs.ReadingLaws.{codes-length, front, codes-small}
-use Rattle.text.specs.Program.{cellsFrom, daysFrom, dayCount, screen}
-use Rattle.text.specs.Taking.{layoutIn, takenIn, taken_of, TakenUp}
+use Rattle.lines.proofs.ReadingLaws.{codes_length, front, codes_small}
+use Rattle.text.specs.Program.{cells_from, days_from, day_count, screen}
+use Rattle.text.specs.Taking.{layout_in, taken_in, taken_of, TakenUp}
 use Rattle.text.specs.Run.{Coded, Complete}
 use Rattle.text.specs.declared.screening.Screened.{Screened}
 use Rattle.text.specs.declared.screening.Screened.TheVariants as screened
@@ -23,62 +23,62 @@ use Rattle.text.proofs.ScreenLaws.{ready}
 
 -- by the answer of the tests
 module _ (ns : List ℕ) where
-  pub taken_refused : (number place : ℕ) → screen ns ≡ screened.Refused number place → Refused number place ≡ takenIn ns (screen ns)
-  unfolding takenIn
+  pub taken_refused : (number place : ℕ) → screen ns ≡ screened.Refused number place → Refused number place ≡ taken_in ns (screen ns)
+  unfolding taken_in
   taken_refused number place e = rw e refl
 
-  module _ (cells : ℕ) (e : screen ns ≡ screened.Ready cells) (from : ℕ) (start : from ≡ cellsFrom ns) where
-    pub days-start : from + 4 * cells ≡ daysFrom ns
-    unfolding daysFrom
-    days-start = rw (start, (ready ns cells e).0) refl
+  module _ (cells : ℕ) (e : screen ns ≡ screened.Ready cells) (from : ℕ) (start : from ≡ cells_from ns) where
+    pub days_start : from + 4 * cells ≡ days_from ns
+    unfolding days_from
+    days_start = rw (start, (ready ns cells e).0) refl
 
-    pub days-inside : from + 4 * cells ≤ length ns
-    days-inside = omega (arith, days-start, (ready ns cells e).1.numbers)
+    pub days_inside : from + 4 * cells ≤ length ns
+    days_inside = omega (arith, days_start, (ready ns cells e).1.numbers)
 
-    pub days-small : 4 * cells ≤ 16384
-    days-small = omega (arith, (ready ns cells e).0, (ready ns cells e).1.cells)
+    pub days_small : 4 * cells ≤ 16384
+    days_small = omega (arith, (ready ns cells e).0, (ready ns cells e).1.cells)
 
-    pub taken-ready :
+    pub taken_ready :
         Ready (record { numbers = length ns; cells = cells; cells_from = from; days_from = from + 4 * cells; days = (length ns - (from + 4 * cells)) / 7 })
-        ≡ takenIn ns (screen ns)
-    unfolding takenIn layoutIn dayCount
-    taken-ready = rw (e, days-start, start, (ready ns cells e).0) refl
+        ≡ taken_in ns (screen ns)
+    unfolding taken_in layout_in day_count
+    taken_ready = rw (e, days_start, start, (ready ns cells e).0) refl
 
 -- by what is read
 module _ (input before after : List ℕ) (r : Form) (count : ℕ) (read : Read (given input) before after r) where
-  of-form : (whole : Bool) (n : ℕ) → formIn whole n ≡ Whole count → (whole ≡ true) × (n ≡ count)
-  unfolding formIn
-  of-form true n e = (refl, (cc))
-  of-form false n e = absurd (let z : ◌≡◌ {A = ℕ} 0 1 = cc in omega arith)
+  of_form : (whole : Bool) (n : ℕ) → form_in whole n ≡ Whole count → (whole ≡ true) × (n ≡ count)
+  unfolding form_in
+  of_form true n e = (refl, (cc))
+  of_form false n e = absurd (let z : ◌≡◌ {A = ℕ} 0 1 = cc in omega arith)
 
-  of-fault : (whole : Bool) (n : ℕ) → formIn whole n ≡ Broken count → (whole ≡ false) × (n ≡ count)
-  unfolding formIn
-  of-fault true n e = absurd (let z : ◌≡◌ {A = ℕ} 0 1 = cc in omega arith)
-  of-fault false n e = (refl, (cc))
+  of_fault : (whole : Bool) (n : ℕ) → form_in whole n ≡ Broken count → (whole ≡ false) × (n ≡ count)
+  unfolding form_in
+  of_fault true n e = absurd (let z : ◌≡◌ {A = ℕ} 0 1 = cc in omega arith)
+  of_fault false n e = (refl, (cc))
 
-  pub broken-taken : (place : ℕ) → r ≡ Broken count → place ≡ count → TakenUp input before after (Refused 11 place)
+  pub broken_taken : (place : ℕ) → r ≡ Broken count → place ≡ count → TakenUp input before after (Refused 11 place)
   unfolding taken_of
-  broken-taken place e same =
-      let f = of-fault (given input).whole (length (given input).numbers) (sym read.form ∙ e) in
+  broken_taken place e same =
+      let f = of_fault (given input).whole (length (given input).numbers) (sym read.form ∙ e) in
       record { answer = rw f.0 (ap (Refused 11) (same ∙ sym f.1)); numbers = read.numbers; few = read.few }
 
-  module _ (e : r ≡ Whole count) (long : length after ≡ mostNumbers) where
+  module _ (e : r ≡ Whole count) (long : length after ≡ most_numbers) where
     abbrev formed : ((given input).whole ≡ true) × (length (given input).numbers ≡ count)
-    formed = of-form (given input).whole (length (given input).numbers) (sym read.form ∙ e)
+    formed = of_form (given input).whole (length (given input).numbers) (sym read.form ∙ e)
 
     same : take count after ≡ codes (given input).numbers
     same =
         ap (λ (n : ℕ). take n after) (sym formed.1)
         ∙ front (given input) before after r (sym (ap length read.numbers ∙ length-sets before 0 (codes (given input).numbers)) ∙ long) read
 
-    pub whole-counted : count ≡ length (take count after)
-    whole-counted = sym (ap length same ∙ codes-length (given input).numbers ∙ formed.1)
+    pub whole_counted : count ≡ length (take count after)
+    whole_counted = sym (ap length same ∙ codes_length (given input).numbers ∙ formed.1)
 
-    pub whole-taken : (t : Taken) → t ≡ takenIn (take count after) (screen (take count after)) → TakenUp input before after t
+    pub whole_taken : (t : Taken) → t ≡ taken_in (take count after) (screen (take count after)) → TakenUp input before after t
     unfolding taken_of
-    whole-taken t is =
+    whole_taken t is =
         record {
-          answer = is ∙ rw formed.0 (ap (λ (ns : List ℕ). takenIn ns (screen ns)) same);
+          answer = is ∙ rw formed.0 (ap (λ (ns : List ℕ). taken_in ns (screen ns)) same);
           numbers = read.numbers;
           few = read.few;
         }
@@ -92,30 +92,30 @@ pub record ReadyText (input after : List ℕ) (layout : Layout) : Type 0 where
   pub coded : Coded (take layout.numbers after)
 
 module _ (layout : Layout) where
-  of-screened : (ns : List ℕ) (s : Screened) → screen ns ≡ s → takenIn ns s ≡ Ready layout → Complete ns layout
-  unfolding takenIn
-  of-screened ns (screened.Refused number place) e is = absurd (let z : ◌≡◌ {A = ℕ} 0 1 = cc in omega arith)
-  of-screened ns (screened.Ready cells) e is = let same : layoutIn ns ≡ layout = cc in rw same at (ready ns cells e).1
+  of_screened : (ns : List ℕ) (s : Screened) → screen ns ≡ s → taken_in ns s ≡ Ready layout → Complete ns layout
+  unfolding taken_in
+  of_screened ns (screened.Refused number place) e is = absurd (let z : ◌≡◌ {A = ℕ} 0 1 = cc in omega arith)
+  of_screened ns (screened.Ready cells) e is = let same : layout_in ns ≡ layout = cc in rw same at (ready ns cells e).1
 
-  of-reading : (r : Reading) → Ready layout ≡ taken_of r → Complete (codes r.numbers) layout
+  of_reading : (r : Reading) → Ready layout ≡ taken_of r → Complete (codes r.numbers) layout
   unfolding taken_of
-  of-reading r e =
+  of_reading r e =
       let ns = codes r.numbers in
-      byCases r.whole (λ whole. of-screened ns (screen ns) refl (sym (rw whole at e)))
+      by_cases r.whole (λ whole. of_screened ns (screen ns) refl (sym (rw whole at e)))
       (λ broken. absurd (let fault = rw broken at e in let z : ◌≡◌ {A = ℕ} 0 1 = cc in omega arith))
 
-  pub ready-text : (input before after : List ℕ) (t : Taken) → length before ≡ mostNumbers → TakenUp input before after t → t ≡ Ready layout → ReadyText input after layout
-  unfolding layoutIn
-  ready-text input before after t long up e =
+  pub ready_text : (input before after : List ℕ) (t : Taken) → length before ≡ most_numbers → TakenUp input before after t → t ≡ Ready layout → ReadyText input after layout
+  unfolding layout_in
+  ready_text input before after t long up e =
       let zs = (given input).numbers in
-      let all = of-reading (given input) (sym e ∙ up.answer) in
-      let count : layout.numbers ≡ length zs = ap (λ (l : Layout). l.numbers) all.placed ∙ codes-length zs in
-      let size : length after ≡ mostNumbers = ap length up.numbers ∙ length-sets before 0 (codes zs) ∙ long in
+      let all = of_reading (given input) (sym e ∙ up.answer) in
+      let count : layout.numbers ≡ length zs = ap (λ (l : Layout). l.numbers) all.placed ∙ codes_length zs in
+      let size : length after ≡ most_numbers = ap length up.numbers ∙ length-sets before 0 (codes zs) ∙ long in
       let same : take layout.numbers after ≡ codes zs = ap (λ (n : ℕ). take n after) count ∙ front (given input) before after _ long (record { form = refl; numbers = up.numbers; few = up.few }) in
       record {
         room = omega (arith, up.few);
-        counted = count ∙ sym (ap length same ∙ codes-length zs);
+        counted = count ∙ sym (ap length same ∙ codes_length zs);
         same = same;
         complete = rw same all;
-        coded = rw same (record { few = omega (arith, codes-length zs, up.few); small = codes-small input });
+        coded = rw same (record { few = omega (arith, codes_length zs, up.few); small = codes_small input });
       }

@@ -19,8 +19,8 @@ Agree [] = Unit {0}
 Agree (e ∷ es) = (printed (lines e.input) ≡ lines e.output) × Agree es
 
 -- the paper's input, with the line of cell 1
-abbrev pub paperWith : String → List String
-paperWith cell =
+abbrev pub paper_with : String → List String
+paper_with cell =
     "2 1 120 270"
     ∷ "1"
     ∷ "3 0 75 75 75 75 6000 6000 6000 6000 900 0 250 250 250 250"
@@ -30,21 +30,21 @@ paperWith cell =
     ∷ "2 151 0 600 700 800 2000"
     ∷ []
 
-abbrev pub paperInput : List String
-paperInput = paperWith "0 3 2 200"
+abbrev pub paper_input : List String
+paper_input = paper_with "0 3 2 200"
 
-abbrev pub ofThePaper : Example
-ofThePaper =
+abbrev pub of_the_paper : Example
+of_the_paper =
     record {
-      input = paperInput;
+      input = paper_input;
       output = "1 61800 1800 4000 12000 44000 0 100000" ∷ "2 0 0 3928 0 0 0 96072" ∷ "end 2" ∷ [];
     }
 
 -- cell 1 drains over the edge in place of a closed depression: what it rejects is gone
-abbrev pub onASlope : Example
-onASlope =
+abbrev pub on_a_slope : Example
+on_a_slope =
     record {
-      input = paperWith "1 3 2 200";
+      input = paper_with "1 3 2 200";
       output = "1 61800 1800 4000 12000 0 44000 100000" ∷ "2 0 0 3928 0 0 0 96072" ∷ "end 2" ∷ [];
     }
 
@@ -53,8 +53,8 @@ abbrev pub says : String → String → Example
 says input output = record { input = input ∷ []; output = output ∷ [] }
 
 -- a grid of one cell with one cover, code 3
-abbrev pub withCell : String → String → Example
-withCell cell output =
+abbrev pub with_cell : String → String → Example
+with_cell cell output =
     record {
       input = "1 1 1 366 1" ∷ "3 0 75 75 75 75 0 0 0 0 0 0 0 0 0 0" ∷ cell ∷ [];
       output = output ∷ [];
@@ -62,8 +62,8 @@ withCell cell output =
 
 -- rain of 30,000 on bare ground of curve number 75 after two frosty days and a dry spell; what sinks in recharges, so that what is gone tells the
 -- condition that the day counts as
-abbrev pub rainAfter : String → String → Example
-rainAfter frosts rained =
+abbrev pub rain_after : String → String → Example
+rain_after frosts rained =
     record {
       input = "1 1 1 366 1" ∷ "3 0 75 75 75 75 100000 100000 100000 100000 0 0 0 0 0 0" ∷ "1 3 1 0" ∷ frosts ∷ "3 3 30000 400 400 400 0" ∷ [];
       output = "1 0 0 0 0 0 0 0" ∷ "2 0 0 0 0 0 0 0" ∷ rained ∷ "end 3" ∷ [];
@@ -71,8 +71,8 @@ rainAfter frosts rained =
 
 unfoldable pub examples : List Example
 examples =
-    ofThePaper
-    ∷ onASlope
+    of_the_paper
+    ∷ on_a_slope
     -- form: a leading zero, a minus zero, ten digits, a plus, a tab
     ∷ says "2 1 007" "refused 11 at 2"
     ∷ says "2 1 -0" "refused 11 at 2"
@@ -92,20 +92,20 @@ examples =
     ∷ says "2 1 120 270 65" "refused 3 at 0"
     ∷ says "2 1 120 270 -1" "refused 3 at 0"
     -- cells: a direction over 255 is a closed depression, one below zero a fault; a code is a whole number
-    ∷ withCell "257 3 1 0" "end 0"
-    ∷ withCell "-1 3 1 0" "refused 4 at 0"
-    ∷ withCell "1 259 1 0" "refused 4 at 0"
+    ∷ with_cell "257 3 1 0" "end 0"
+    ∷ with_cell "-1 3 1 0" "refused 4 at 0"
+    ∷ with_cell "1 259 1 0" "refused 4 at 0"
     -- a day cut off, and one whose maximum is below its mean
-    ∷ withCell "1 3 1 0 1 1 0 0 0 0" "refused 11 at 31"
-    ∷ withCell "1 3 1 0 1 1 0 -20 -10 -11 0" "refused 7 at 0"
+    ∷ with_cell "1 3 1 0 1 1 0 0 0 0" "refused 11 at 31"
+    ∷ with_cell "1 3 1 0 1 1 0 -20 -10 -11 0" "refused 7 at 0"
     -- a day after a gap: the lines before it stand
     ∷ record {
       input = "1 1 1 366 1" ∷ "3 0 75 75 75 75 0 0 0 0 0 0 0 0 0 0" ∷ "1 3 1 0 5 1 0 -20 -10 0 0 7 2 0 0 0 0 0" ∷ [];
       output = "5 0 0 0 0 0 0 0" ∷ "refused 8 at 0" ∷ [];
     }
     -- frozen ground: a frost index of 55,999 is condition I, 56,000 and 82,999 are II, 83,000 is III
-    ∷ rainAfter "1 1 0 -626 -626 -626 0 2 2 0 116 116 116 0" "3 30000 0 0 27539 0 2461 0"
-    ∷ rainAfter "1 1 0 -625 -625 -625 0 2 2 0 115 115 115 0" "3 30000 0 0 20393 0 9607 0"
-    ∷ rainAfter "1 1 0 -625 -625 -625 0 2 2 0 -386 -386 -386 0" "3 30000 0 0 20393 0 9607 0"
-    ∷ rainAfter "1 1 0 -624 -624 -624 0 2 2 0 -387 -387 -387 0" "3 30000 0 0 11819 0 18181 0"
+    ∷ rain_after "1 1 0 -626 -626 -626 0 2 2 0 116 116 116 0" "3 30000 0 0 27539 0 2461 0"
+    ∷ rain_after "1 1 0 -625 -625 -625 0 2 2 0 115 115 115 0" "3 30000 0 0 20393 0 9607 0"
+    ∷ rain_after "1 1 0 -625 -625 -625 0 2 2 0 -386 -386 -386 0" "3 30000 0 0 20393 0 9607 0"
+    ∷ rain_after "1 1 0 -624 -624 -624 0 2 2 0 -387 -387 -387 0" "3 30000 0 0 11819 0 18181 0"
     ∷ []

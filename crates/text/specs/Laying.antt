@@ -1,37 +1,37 @@
 -- The setup and the days of the input's numbers, for every list of numbers: each list of the cells at the front of an array.
 use Rattle.std.specs.Prelude.{List, ◌++◌, ◌≡◌, ℕ, ◌+◌, ◌*◌, ◌-◌, min, ℤ, length, get_or, take, replicate}
-use Rattle.paper.specs.Limits.{mostCells}
+use Rattle.paper.specs.Limits.{most_cells}
 use Rattle.paper.specs.State.{Day}
-use Rattle.lines.specs.Reading.{noNumber, signed}
+use Rattle.lines.specs.Reading.{no_number, signed}
 use Rattle.records.specs.declared.grids.Grid.{Grid}
 use Rattle.records.specs.declared.grids.Climate.{Climate}
-use Rattle.text.specs.Program.{field, balanceSetpoints, setup}
+use Rattle.text.specs.Program.{field, balance_setpoints, setup}
 
 -- the first four numbers, and the program's setpoints
-abbrev pub gridIn : List ℕ → Grid
-gridIn ns = record { width = get_or ns 0 0; height = get_or ns 1 0 }
+abbrev pub grid_in : List ℕ → Grid
+grid_in ns = record { width = get_or ns 0 0; height = get_or ns 1 0 }
 
-abbrev pub climateIn : List ℕ → Climate
-climateIn ns =
+abbrev pub climate_in : List ℕ → Climate
+climate_in ns =
     record {
       season = record { first = get_or ns 2 0; last = get_or ns 3 0 };
-      setpoints = record { first = record { 0 = balanceSetpoints.first }; second = record { 0 = balanceSetpoints.second } };
+      setpoints = record { first = record { 0 = balance_setpoints.first }; second = record { 0 = balance_setpoints.second } };
     }
 
 -- a list of the cells at the front of an array that holds the most there can be: what is past that is cut, and past the cells stand zeros
 unfoldable pub held : List ℕ → List ℕ
-held l = take mostCells l ++ replicate (mostCells - length l) 0
+held l = take most_cells l ++ replicate (most_cells - length l) 0
 
 -- a temperature has its sign back; a code that is no number's reads as the lowest number, which no day has
 unfoldable pub degrees : ℕ → ℤ
-degrees c = signed (min c (noNumber - 1))
+degrees c = signed (min c (no_number - 1))
 
 -- day k of days that begin at `from`; past the numbers stand zeros
-unfoldable pub dayFrom : List ℕ → ℕ → ℕ → Day
-dayFrom ns from k =
+unfoldable pub day_from : List ℕ → ℕ → ℕ → Day
+day_from ns from k =
     record {
       serial = field ns (from + 7 * k);
-      dayOfYear = field ns (from + 7 * k + 1);
+      day_of_year = field ns (from + 7 * k + 1);
       gross = field ns (from + 7 * k + 2);
       minimum = degrees (field ns (from + 7 * k + 3));
       mean = degrees (field ns (from + 7 * k + 4));

@@ -1,23 +1,23 @@
 -- The program `balance`: all that it prints for an input, in the order of the paper's tests.
 use Rattle.std.specs.Prelude.{Bool, cond, not, ◌&&◌, List, [], ◌∷◌, ◌++◌, ℕ, suc, ◌+◌, ◌*◌, ◌-◌, ◌/◌, ◌%◌, eqb, leb, ltb, ℤ, length, get_or, replicate}
 use Rattle.theory.specs.Lists.{made}
-use Rattle.paper.specs.Limits.{within, mostCovers}
-use Rattle.paper.specs.Setup.{Setpoints, Setup, cells, gridFits}
+use Rattle.paper.specs.Limits.{within, most_covers}
+use Rattle.paper.specs.Setup.{Setpoints, Setup, cells, grid_fits}
 use Rattle.paper.specs.State.{State, Day}
 use Rattle.paper.specs.Refusals.{Verdict, accepted, refused}
-use Rattle.paper.specs.Day.{Results, Outcome, Fresh, noResults, fresh_of, dayOf}
-use Rattle.lines.specs.Reading.{Reading, reading, mostBytes, negatives, codes, signed}
+use Rattle.paper.specs.Day.{Results, Outcome, Fresh, no_results, fresh_of, day_of}
+use Rattle.lines.specs.Reading.{Reading, reading, most_bytes, negatives, codes, signed}
 use Rattle.text.specs.declared.screening.Screened.{Screened}
 use Rattle.text.specs.declared.screening.Screened.TheVariants.{Refused, Ready}
-use Rattle.lines.specs.Lines.{dayLine, endLine, refusedLine, refusal}
+use Rattle.lines.specs.Lines.{day_line, end_line, refused_line, refusal}
 
 -- a negative direction is a fault of its cell: its group then stands as 0, which is outside 1 to 4
-unfoldable pub groupGiven : ℕ → ℕ → ℕ
-groupGiven direction group = cond (ltb negatives direction) 0 group
+unfoldable pub group_given : ℕ → ℕ → ℕ
+group_given direction group = cond (ltb negatives direction) 0 group
 
 -- the setpoints of the frost index that `balance` uses
-abbrev pub balanceSetpoints : Setpoints
-balanceSetpoints = record { first = 56000; second = 83000 }
+abbrev pub balance_setpoints : Setpoints
+balance_setpoints = record { first = 56000; second = 83000 }
 
 -- The input's numbers are held as their codes, so that a number below zero is past the limits of its field; a temperature has its sign back.
 -- In order: width, height, first, last, count of covers; 16 numbers a cover; four a cell; seven a day.
@@ -28,93 +28,93 @@ module _ (ns : List ℕ) where
   abbrev pub temperature : ℕ → ℤ
   temperature k = signed (field k)
 
-  unfoldable pub coverCount : ℕ
-  coverCount = field 4
+  unfoldable pub cover_count : ℕ
+  cover_count = field 4
 
-  unfoldable pub cellCount : ℕ
-  cellCount = field 0 * field 1
+  unfoldable pub cell_count : ℕ
+  cell_count = field 0 * field 1
 
-  unfoldable pub cellsFrom : ℕ
-  cellsFrom = 5 + 16 * coverCount
+  unfoldable pub cells_from : ℕ
+  cells_from = 5 + 16 * cover_count
 
-  unfoldable pub daysFrom : ℕ
-  daysFrom = cellsFrom + 4 * cellCount
+  unfoldable pub days_from : ℕ
+  days_from = cells_from + 4 * cell_count
 
-  unfoldable pub dayCount : ℕ
-  dayCount = (length ns - daysFrom) / 7
+  unfoldable pub day_count : ℕ
+  day_count = (length ns - days_from) / 7
 
   -- no number is missing, and the last day is not cut off
   unfoldable pub is_complete : Bool
-  is_complete = leb daysFrom (length ns) && eqb ((length ns - daysFrom) % 7) 0
+  is_complete = leb days_from (length ns) && eqb ((length ns - days_from) % 7) 0
 
   unfoldable pub setup : Setup
   setup =
       record {
         grid = record { width = field 0; height = field 1 };
-        climate = record { season = record { first = field 2; last = field 3 }; setpoints = balanceSetpoints };
-        covers = made (16 * coverCount) (λ k. field (5 + k));
-        direction = made cellCount (λ i. field (cellsFrom + 4 * i));
-        cover = made cellCount (λ i. field (cellsFrom + 4 * i + 1));
-        group = made cellCount (λ i. groupGiven (field (cellsFrom + 4 * i)) (field (cellsFrom + 4 * i + 2)));
-        available = made cellCount (λ i. field (cellsFrom + 4 * i + 3));
+        climate = record { season = record { first = field 2; last = field 3 }; setpoints = balance_setpoints };
+        covers = made (16 * cover_count) (λ k. field (5 + k));
+        direction = made cell_count (λ i. field (cells_from + 4 * i));
+        cover = made cell_count (λ i. field (cells_from + 4 * i + 1));
+        group = made cell_count (λ i. group_given (field (cells_from + 4 * i)) (field (cells_from + 4 * i + 2)));
+        available = made cell_count (λ i. field (cells_from + 4 * i + 3));
       }
 
-  unfoldable pub dayAt : ℕ → Day
-  dayAt k =
+  unfoldable pub day_at : ℕ → Day
+  day_at k =
       record {
-        serial = field (daysFrom + 7 * k);
-        dayOfYear = field (daysFrom + 7 * k + 1);
-        gross = field (daysFrom + 7 * k + 2);
-        minimum = temperature (daysFrom + 7 * k + 3);
-        mean = temperature (daysFrom + 7 * k + 4);
-        maximum = temperature (daysFrom + 7 * k + 5);
-        potential = field (daysFrom + 7 * k + 6);
+        serial = field (days_from + 7 * k);
+        day_of_year = field (days_from + 7 * k + 1);
+        gross = field (days_from + 7 * k + 2);
+        minimum = temperature (days_from + 7 * k + 3);
+        mean = temperature (days_from + 7 * k + 4);
+        maximum = temperature (days_from + 7 * k + 5);
+        potential = field (days_from + 7 * k + 6);
       }
 
 -- one day's line and what follows it, or its refusal
-unfoldable pub dayText : ℕ → Outcome → Verdict → List ℕ → List ℕ
-dayText serial o accepted later = dayLine serial o.totals ++ later
-dayText serial o (refused why) later = refusal why
+unfoldable pub day_text : ℕ → Outcome → Verdict → List ℕ → List ℕ
+day_text serial o accepted later = day_line serial o.totals ++ later
+day_text serial o (refused why) later = refusal why
 
 -- the days from state `st` on, `done` of them before
-unfoldable pub daysText : Setup → State → Results → ℕ → List Day → List ℕ
-daysText s st r done [] = endLine done
-daysText s st r done (d ∷ ds) =
-    dayText d.serial (dayOf s st r d) (dayOf s st r d).verdict
-    (daysText s (dayOf s st r d).state (dayOf s st r d).results (suc done) ds)
+unfoldable pub days_text : Setup → State → Results → ℕ → List Day → List ℕ
+days_text s st r done [] = end_line done
+days_text s st r done (d ∷ ds) =
+    day_text d.serial (day_of s st r d) (day_of s st r d).verdict
+    (days_text s (day_of s st r d).state (day_of s st r d).results (suc done) ds)
 
 -- from the fresh state, or its refusal
-unfoldable pub freshText : Setup → List Day → Fresh → Verdict → List ℕ
-freshText s ds f accepted = daysText s f.state (noResults (cells s)) 0 ds
-freshText s ds f (refused why) = refusal why
+unfoldable pub fresh_text : Setup → List Day → Fresh → Verdict → List ℕ
+fresh_text s ds f accepted = days_text s f.state (no_results (cells s)) 0 ds
+fresh_text s ds f (refused why) = refusal why
 
-unfoldable pub startText : Setup → List Day → Fresh → List ℕ
-startText s ds f = freshText s ds f f.verdict
+unfoldable pub start_text : Setup → List Day → Fresh → List ℕ
+start_text s ds f = fresh_text s ds f f.verdict
 
-unfoldable pub runText : List ℕ → List ℕ
-runText ns =
-    startText (setup ns) (made (dayCount ns) (dayAt ns))
-    (fresh_of (setup ns) (replicate (cellCount ns) 0) (replicate (cellCount ns) 0))
+unfoldable pub run_text : List ℕ → List ℕ
+run_text ns =
+    start_text (setup ns) (made (day_count ns) (day_at ns))
+    (fresh_of (setup ns) (replicate (cell_count ns) 0) (replicate (cell_count ns) 0))
 
 -- the tests before the run: test 1 and the cover count, each with its missing numbers before it, then the missing numbers of the rest
 unfoldable pub screen : List ℕ → Screened
 screen ns =
     cond (ltb (length ns) 2) (Refused 11 (length ns))
-    (cond (not (gridFits (setup ns).grid)) (Refused 1 0)
+    (cond (not (grid_fits (setup ns).grid)) (Refused 1 0)
     (cond (ltb (length ns) 5) (Refused 11 (length ns))
-    (cond (not (within 1 mostCovers (coverCount ns))) (Refused 3 0)
-    (cond (not (is_complete ns)) (Refused 11 (length ns)) (Ready (cellCount ns))))))
+    (cond (not (within 1 most_covers (cover_count ns))) (Refused 3 0)
+    (cond (not (is_complete ns)) (Refused 11 (length ns)) (Ready (cell_count ns))))))
 
-unfoldable pub screenText : List ℕ → Screened → List ℕ
-screenText ns (Refused number place) = refusedLine number place
-screenText ns (Ready cells) = runText ns
+unfoldable pub screen_text : List ℕ → Screened → List ℕ
+screen_text ns (Refused number place) = refused_line number place
+screen_text ns (Ready cells) = run_text ns
 
-unfoldable pub numbersText : List ℕ → List ℕ
-numbersText ns = screenText ns (screen ns)
+unfoldable pub numbers_text : List ℕ → List ℕ
+numbers_text ns = screen_text ns (screen ns)
 
-unfoldable pub formText : Reading → List ℕ
-formText r = cond r.whole (numbersText (codes r.numbers)) (refusedLine 11 (length r.numbers))
+unfoldable pub form_text : Reading → List ℕ
+form_text r = cond r.whole (numbers_text (codes r.numbers)) (refused_line 11 (length r.numbers))
 
 -- length first, then form
 unfoldable pub printed : List ℕ → List ℕ
-printed text = cond (ltb mostBytes (length text)) (refusedLine 11 0) (formText (reading text))
+printed text = cond (ltb most_bytes (length text)) (refused_line 11 0) (form_text (reading text))

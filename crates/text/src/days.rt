@@ -1,11 +1,11 @@
 // A run's days, each from its numbers to its line.
 ghost use Rattle.std.specs.Prelude.{length};
 ghost use Rattle.theory.specs.Lists.{made};
-ghost use Rattle.paper.specs.Day.{noResults};
-ghost use Rattle.records.specs.Grids.{setupAs};
-ghost use Rattle.records.specs.Past.{stateAs};
-ghost use Rattle.text.specs.Program.{dayCount, dayAt, daysText};
-ghost use Rattle.text.specs.Run.{DaysReady, mostText};
+ghost use Rattle.paper.specs.Day.{no_results};
+ghost use Rattle.records.specs.Grids.{setup_as};
+ghost use Rattle.records.specs.Past.{state_as};
+ghost use Rattle.text.specs.Program.{day_count, day_at, days_text};
+ghost use Rattle.text.specs.Run.{DaysReady, most_text};
 ghost use Rattle.words.specs.Writing.{Wrote};
 
 use crate::fields::day_in;
@@ -31,7 +31,7 @@ pub(crate) fn days(
     output: &mut [u8],
 ) -> usize
     requires { DaysReady numbers.now layout direction.now }
-    ensures { Wrote mostText 0 (daysText (setupAs grid climate covers.now direction.now cover.now group.now water.now) (stateAs soil.old snow.old past) (noResults (length direction.now)) 0 (made (dayCount numbers.now) (dayAt numbers.now))) output.old output.new result }
+    ensures { Wrote most_text 0 (days_text (setup_as grid climate covers.now direction.now cover.now group.now water.now) (state_as soil.old snow.old past) (no_results (length direction.now)) 0 (made (day_count numbers.now) (day_at numbers.now))) output.old output.new result }
 {
     let n = direction.len();
     let from = layout.days_from;

@@ -1,10 +1,10 @@
 // The numbers of the input as the fields of a setup and of a day. Every function here answers every list of numbers: what it does not have reads as 0.
 ghost use Rattle.std.specs.Prelude.{◌≡◌, ◌+◌, ◌*◌, ◌<◌, ◌≤◌, min, get_or};
 ghost use Rattle.theory.specs.Lists.{made};
-ghost use Rattle.paper.specs.Limits.{mostCells};
-ghost use Rattle.records.specs.Days.{dayAs};
-ghost use Rattle.text.specs.Program.{field, groupGiven, cellCount, cellsFrom, setup};
-ghost use Rattle.text.specs.Laying.{gridIn, climateIn, held, degrees, dayFrom};
+ghost use Rattle.paper.specs.Limits.{most_cells};
+ghost use Rattle.records.specs.Days.{day_as};
+ghost use Rattle.text.specs.Program.{field, group_given, cell_count, cells_from, setup};
+ghost use Rattle.text.specs.Laying.{grid_in, climate_in, held, degrees, day_from};
 
 use covers::ENTRY_NUMBERS;
 use lines::{NEGATIVES, NO_NUMBER};
@@ -36,7 +36,7 @@ pub fn number_at(numbers: &[u32], place: usize) -> u32
 }
 
 pub fn grid_in(numbers: &[u32]) -> Grid
-    ensures { result ≡ gridIn numbers.now }
+    ensures { result ≡ grid_in numbers.now }
 {
     let width = number_at(numbers, 0);
     let height = number_at(numbers, 1);
@@ -45,7 +45,7 @@ pub fn grid_in(numbers: &[u32]) -> Grid
 
 // The season of the text, and the program's own setpoints.
 pub fn climate_in(numbers: &[u32]) -> Climate
-    ensures { result ≡ climateIn numbers.now }
+    ensures { result ≡ climate_in numbers.now }
 {
     let first = number_at(numbers, 2);
     let last = number_at(numbers, 3);
@@ -59,14 +59,14 @@ pub fn climate_in(numbers: &[u32]) -> Climate
 
 // Where the cover table ends and the cells begin.
 pub(crate) fn cells_from(numbers: &[u32]) -> usize
-    ensures { (result ≡ cellsFrom numbers.now) × (result ≤ 5 + 16 * 4294967295) }
+    ensures { (result ≡ cells_from numbers.now) × (result ≤ 5 + 16 * 4294967295) }
 {
     FRONT_NUMBERS + ENTRY_NUMBERS * index_of(number_at(numbers, 4))
 }
 
 // As many of the cells as an array holds.
 fn cells_held(numbers: &[u32]) -> usize
-    ensures { result ≡ min (cellCount numbers.now) mostCells }
+    ensures { result ≡ min (cell_count numbers.now) most_cells }
 {
     let cells = grid_in(numbers).cells();
     if cells < MOST_CELLS {
@@ -78,7 +78,7 @@ fn cells_held(numbers: &[u32]) -> usize
 // One of each cell's four numbers, at the front of an array: 0 its direction, 1 its cover, 3 its water.
 fn column(numbers: &[u32], which: usize) -> [u32; MOST_CELLS]
     requires { which < 4 }
-    ensures { result ≡ held (made (cellCount numbers.now) (λ i. field numbers.now (cellsFrom numbers.now + 4 * i + which))) }
+    ensures { result ≡ held (made (cell_count numbers.now) (λ i. field numbers.now (cells_from numbers.now + 4 * i + which))) }
 {
     let from = cells_from(numbers);
     let count = cells_held(numbers);
@@ -112,7 +112,7 @@ pub fn waters_in(numbers: &[u32]) -> [u32; MOST_CELLS]
 
 // A cell's group; 0, which is no group, where its direction is below zero.
 fn group(direction: u32, given: u32) -> u32
-    ensures { result ≡ groupGiven direction given }
+    ensures { result ≡ group_given direction given }
 {
     if NEGATIVES < direction { 0 } else { given }
 }
@@ -161,7 +161,7 @@ fn day_place(count: usize, from: usize, k: usize) -> usize
 
 // The numbers of day k, of days that begin at `from`.
 pub fn day_in(numbers: &[u32], from: usize, k: usize) -> DayRecord
-    ensures { dayAs result ≡ dayFrom numbers.now from k }
+    ensures { day_as result ≡ day_from numbers.now from k }
 {
     let at = day_place(numbers.len(), from, k);
     DayRecord {

@@ -1,4 +1,6 @@
 // The program's text as one function of the input, and its parts for other programs over the same text.
+#![tactic(auto)]
+
 mod days;
 mod fields;
 mod program;

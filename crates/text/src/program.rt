@@ -1,13 +1,13 @@
 // The program's text as one function of the input: it is taken up, then run.
 ghost use Rattle.text.specs.Program.{printed};
-ghost use Rattle.text.specs.Run.{Printed, mostText};
+ghost use Rattle.text.specs.Run.{Printed, most_text};
 ghost use Rattle.words.specs.Writing.{Wrote};
 
 use crate::starting::started;
 use crate::taking::{Taken, take_up};
 use lines::{MOST_NUMBERS, refused};
 
-#[derive(Drop)]
+#[derive(Clone, Copy)]
 pub enum Written {
     // The buffer is shorter than the longest text.
     NoRoom,
@@ -20,7 +20,7 @@ pub const MOST_TEXT: usize = 786461;
 
 // The whole text.
 fn text(input: &[u8], output: &mut [u8]) -> usize
-    ensures { Wrote mostText 0 (printed input.now) output.old output.new result }
+    ensures { Wrote most_text 0 (printed input.now) output.old output.new result }
 {
     let mut numbers = [0u32; MOST_NUMBERS];
     match take_up(input, &mut numbers) {

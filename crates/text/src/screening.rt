@@ -1,6 +1,6 @@
 // The tests of the numbers before anything is run.
 ghost use Rattle.std.specs.Prelude.{◌&&◌, ◌≡◌, ◌-◌, ◌*◌, ◌%◌, leb, eqb};
-ghost use Rattle.paper.specs.Limits.{mostCovers};
+ghost use Rattle.paper.specs.Limits.{most_covers};
 ghost use Rattle.text.specs.Program.{screen as screened};
 
 use crate::fields::{CELL_NUMBERS, DAY_NUMBERS, FRONT_NUMBERS};
@@ -8,7 +8,7 @@ use covers::ENTRY_NUMBERS;
 use lines::{BAD_TEXT, units};
 use records::{Grid, index_of};
 
-#[derive(Drop)]
+#[derive(Clone, Copy)]
 pub(crate) enum Screened {
     // A refusal's number and place.
     Refused(u64, u64),
@@ -19,7 +19,7 @@ pub(crate) enum Screened {
 const MOST_COVERS: u32 = 64;
 
 fn covers_fit(count: u32) -> bool
-    ensures { result ≡ (leb 1 count && leb count mostCovers) }
+    ensures { result ≡ (leb 1 count && leb count most_covers) }
 {
     (1 <= count) & (count <= MOST_COVERS)
 }

@@ -1,7 +1,7 @@
 // A run from the input's numbers: the setup in slices of its own lengths, the fresh state, then the days.
 ghost use Rattle.text.specs.Laying.{Laid};
-ghost use Rattle.text.specs.Program.{runText};
-ghost use Rattle.text.specs.Run.{Coded, Complete, Lent, mostText};
+ghost use Rattle.text.specs.Program.{run_text};
+ghost use Rattle.text.specs.Run.{Coded, Complete, Lent, most_text};
 ghost use Rattle.words.specs.Writing.{Wrote};
 
 use crate::days::days;
@@ -26,7 +26,7 @@ fn begun(
     output: &mut [u8],
 ) -> usize
     requires { Laid numbers.now covers.now direction.now cover.now group.now water.now × Lent numbers.now layout soil.old snow.old }
-    ensures { Wrote mostText 0 (runText numbers.now) output.old output.new result }
+    ensures { Wrote most_text 0 (run_text numbers.now) output.old output.new result }
 {
     let grid = grid_in(numbers);
     let climate = climate_in(numbers);
@@ -49,7 +49,7 @@ fn begun(
 // Numbers that are ready for the run: the cover table is lent from among them, and the cells' four numbers stand each at the front of an array.
 pub(crate) fn started(numbers: &[u32], layout: Layout, output: &mut [u8]) -> usize
     requires { Complete numbers.now layout × Coded numbers.now }
-    ensures { Wrote mostText 0 (runText numbers.now) output.old output.new result }
+    ensures { Wrote most_text 0 (run_text numbers.now) output.old output.new result }
 {
     let front = FRONT_NUMBERS;
     let from = layout.cells_from;

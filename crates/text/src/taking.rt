@@ -1,14 +1,14 @@
 // A text taken up: its numbers read and tested, before anything is run.
 ghost use Rattle.std.specs.Prelude.{◌≡◌};
 ghost use Rattle.text.specs.Program.{screen as screenOf};
-ghost use Rattle.text.specs.Taking.{takenIn, TakenUp};
+ghost use Rattle.text.specs.Taking.{taken_in, TakenUp};
 
 use crate::fields::{CELL_NUMBERS, DAY_NUMBERS, cells_from};
 use crate::screening::{Screened, screen};
 use lines::{BAD_TEXT, Form, MOST_NUMBERS, read, units};
 
 // Where the parts of a text stand among its numbers.
-#[derive(Drop)]
+#[derive(Clone, Copy)]
 pub struct Layout {
     // How many numbers there are.
     pub numbers: usize,
@@ -19,7 +19,7 @@ pub struct Layout {
     pub days: usize,
 }
 
-#[derive(Drop)]
+#[derive(Clone, Copy)]
 pub enum Taken {
     // A refusal's number and place.
     Refused(u64, u64),
@@ -28,7 +28,7 @@ pub enum Taken {
 
 // The numbers of a text of good form.
 fn screened(numbers: &[u32]) -> Taken
-    ensures { result ≡ takenIn numbers.now (screenOf numbers.now) }
+    ensures { result ≡ taken_in numbers.now (screenOf numbers.now) }
 {
     match screen(numbers) {
         Screened::Refused(number, place) => Taken::Refused(number, place),

@@ -10,64 +10,64 @@ use lib.Dec.{eqb, ltb}
 use lib.ListN.{length, get_or, set, length-set}
 use lib.Seq.{get_or-set_same, get_or-set_other, ext_get_or}
 use borrow.Author.Tests.{lt-ltb, le-ltb, eqb-true, eqb-false}
-use Rattle.theory.specs.Lists.{made, madeAlong}
+use Rattle.theory.specs.Lists.{made, made_along}
 use Rattle.theory.specs.Sums.{sum}
 use Rattle.theory.specs.Ways.{UpslopeFirst}
-use Rattle.theory.proofs.Cases.{byCases, below_or_not, cond-true, cond-false}
-use Rattle.theory.proofs.ListLaws.{made-length, made_at, made-cong, made_of}
-use Rattle.theory.proofs.SumLaws.{sum-injection, sum-cover}
+use Rattle.theory.proofs.Cases.{by_cases, below_or_not, cond_true, cond_false}
+use Rattle.theory.proofs.ListLaws.{made_length, made_at, made_cong, made_of}
+use Rattle.theory.proofs.SumLaws.{sum_injection, sum_cover}
 
 -- a made list with one place stored is made by any rule that has the new number there and agrees elsewhere
-set-made : (n k x : ℕ) (f g : ℕ → ℕ) → k < n → x ≡ g k → ((i : ℕ) → i < n → (i ≡ k → ⊥) → f i ≡ g i) → set (made n f) k x ≡ made n g
-set-made n k x f g h e same =
-    ext_get_or 0 (set (made n f) k x) (made n g) (length-set (made n f) k x ∙ made-length n f ∙ sym (made-length n g))
-    (λ i l. let inside : i < n = rw (length-set (made n f) k x, made-length n f) at l in
+set_made : (n k x : ℕ) (f g : ℕ → ℕ) → k < n → x ≡ g k → ((i : ℕ) → i < n → (i ≡ k → ⊥) → f i ≡ g i) → set (made n f) k x ≡ made n g
+set_made n k x f g h e same =
+    ext_get_or 0 (set (made n f) k x) (made n g) (length-set (made n f) k x ∙ made_length n f ∙ sym (made_length n g))
+    (λ i l. let inside : i < n = rw (length-set (made n f) k x, made_length n f) at l in
     rw (made_at n g 0 i inside)
-    (byCases (eqb i k)
-    (λ q. rw (eqb-true i k q) (get_or-set_same (made n f) k x 0 (rw (made-length n f) h) ∙ e))
+    (by_cases (eqb i k)
+    (λ q. rw (eqb-true i k q) (get_or-set_same (made n f) k x 0 (rw (made_length n f) h) ∙ e))
     (λ q. get_or-set_other (made n f) k i x 0 (eqb-false i k q) ∙ made_at n f 0 i inside ∙ same i inside (eqb-false i k q))))
 
 module _ {n : ℕ} {next : ℕ → ℕ} (order : UpslopeFirst n next) where
   pub once : (s t : ℕ) → s < n → t < n → order.who s ≡ order.who t → s ≡ t
-  once s t a b e = sym (order.turn-who s a) ∙ ap order.turn e ∙ order.turn-who t b
+  once s t a b e = sym (order.turn_who s a) ∙ ap order.turn e ∙ order.turn_who t b
 
-  pub sum-along : (f : ℕ → ℕ) → sum n (λ t. f (order.who t)) ≡ sum n f
-  sum-along f =
-      le_antisymm (sum-injection n n order.who f order.placed once)
-      (sum-cover n n order.who f (λ i h. (order.turn i, order.turned i h, order.who-turn i h)))
+  pub sum_along : (f : ℕ → ℕ) → sum n (λ t. f (order.who t)) ≡ sum n f
+  sum_along f =
+      le_antisymm (sum_injection n n order.who f order.placed once)
+      (sum_cover n n order.who f (λ i h. (order.turn i, order.turned i h, order.who_turn i h)))
 
   module _ (f : ℕ → ℕ) (before : List ℕ) where
-    pub along-none : length before ≡ n → madeAlong n order.turn 0 f before ≡ before
-    unfolding madeAlong
-    along-none e =
-        made-cong n _ (λ i. get_or before i 0) (λ i h. cond-false (ltb (order.turn i) 0) (le-ltb (order.turn i) 0 zero-le) _ _)
+    pub along_none : length before ≡ n → made_along n order.turn 0 f before ≡ before
+    unfolding made_along
+    along_none e =
+        made_cong n _ (λ i. get_or before i 0) (λ i h. cond_false (ltb (order.turn i) 0) (le-ltb (order.turn i) 0 zero-le) _ _)
         ∙ ap (λ (k : ℕ). made k (λ i. get_or before i 0)) (sym e)
         ∙ made_of before 0
 
-    module _ (t : ℕ) (now : List ℕ) (e : now ≡ madeAlong n order.turn t f before) where
-      pub along-sized : length now ≡ n
-      unfolding madeAlong
-      along-sized = rw e (made-length n _)
+    module _ (t : ℕ) (now : List ℕ) (e : now ≡ made_along n order.turn t f before) where
+      pub along_sized : length now ≡ n
+      unfolding made_along
+      along_sized = rw e (made_length n _)
 
       -- the place whose turn it is
       module _ (h : t < n) (place : ℕ) (whose : place ≡ order.who t) where
         due : order.turn place ≡ t
-        due = ap order.turn whose ∙ order.turn-who t h
+        due = ap order.turn whose ∙ order.turn_who t h
 
         inside : place < n
         inside = rw whose (order.placed t h)
 
-        pub along-read : get_or now place 0 ≡ get_or before place 0
-        unfolding madeAlong
-        along-read =
+        pub along_read : get_or now place 0 ≡ get_or before place 0
+        unfolding made_along
+        along_read =
             rw (e, made_at {A = ℕ} n _ 0 place inside)
-            (cond-false (ltb (order.turn place) t) (le-ltb (order.turn place) t (omega (arith, due))) _ _)
+            (cond_false (ltb (order.turn place) t) (le-ltb (order.turn place) t (omega (arith, due))) _ _)
 
-        pub along-write : (x : ℕ) → x ≡ f place → set now place x ≡ madeAlong n order.turn (t + 1) f before
-        unfolding madeAlong
-        along-write x v =
+        pub along_write : (x : ℕ) → x ≡ f place → set now place x ≡ made_along n order.turn (t + 1) f before
+        unfolding made_along
+        along_write x v =
             rw e
-            (set-made n place x _ _ inside (v ∙ sym (cond-true (ltb (order.turn place) (t + 1)) (lt-ltb (order.turn place) (t + 1) (omega (arith, due))) _ _))
+            (set_made n place x _ _ inside (v ∙ sym (cond_true (ltb (order.turn place) (t + 1)) (lt-ltb (order.turn place) (t + 1) (omega (arith, due))) _ _))
             (λ i l other. below_or_not (order.turn i) t
             (λ early. rw (lt-ltb (order.turn i) t early, lt-ltb (order.turn i) (t + 1) (omega arith)))
             (λ late. rw (le-ltb (order.turn i) t late, le-ltb (order.turn i) (t + 1) (after i l other late)))))
@@ -75,8 +75,8 @@ module _ {n : ℕ} {next : ℕ → ℕ} (order : UpslopeFirst n next) where
             after : (i : ℕ) → i < n → (i ≡ place → ⊥) → t ≤ order.turn i → t + 1 ≤ order.turn i
             after i l other late =
                 below_or_not t (order.turn i) (λ (later : t < order.turn i). omega arith)
-                (λ now-due. absurd (other (sym (order.who-turn i l) ∙ ap order.who (le_antisymm now-due late) ∙ sym whose)))
+                (λ now_due. absurd (other (sym (order.who_turn i l) ∙ ap order.who (le_antisymm now_due late) ∙ sym whose)))
 
-      pub along-done : n ≤ t → now ≡ made n f
-      unfolding madeAlong
-      along-done last = e ∙ made-cong n _ f (λ i h. cond-true (ltb (order.turn i) t) (lt-ltb (order.turn i) t (omega (arith, order.turned i h))) _ _)
+      pub along_done : n ≤ t → now ≡ made n f
+      unfolding made_along
+      along_done last = e ∙ made_cong n _ f (λ i h. cond_true (ltb (order.turn i) t) (lt-ltb (order.turn i) t (omega (arith, order.turned i h))) _ _)

@@ -5,12 +5,12 @@ use Prim.Native.Nat.{ℕ, ◌≤◌, ◌<◌}
 use lib.Dec.{ltb}
 use borrow.Author.Tests.{ltb-true, ltb-false}
 
-pub byCases {ℓ} : {P : Type ℓ} (b : Bool) → (b ≡ true → P) → (b ≡ false → P) → P
-byCases true holds fails = holds refl
-byCases false holds fails = fails refl
+pub by_cases {ℓ} : {P : Type ℓ} (b : Bool) → (b ≡ true → P) → (b ≡ false → P) → P
+by_cases true holds fails = holds refl
+by_cases false holds fails = fails refl
 
 pub below_or_not {ℓ} : {P : Type ℓ} (a b : ℕ) → (a < b → P) → (b ≤ a → P) → P
-below_or_not a b less more = byCases (ltb a b) (λ e. less (ltb-true a b e)) (λ e. more (ltb-false a b e))
+below_or_not a b less more = by_cases (ltb a b) (λ e. less (ltb-true a b e)) (λ e. more (ltb-false a b e))
 
 pub and_left : (a b : Bool) → (a && b) ≡ true → a ≡ true
 and_left true b e = refl
@@ -25,13 +25,13 @@ pub and_both : (a b : Bool) → a ≡ true → b ≡ true → (a && b) ≡ true
 and_both true b ea eb = eb
 and_both false b ea eb = ea
 
-pub cond-true : {A : Type 0} (b : Bool) → b ≡ true → (x y : A) → cond b x y ≡ x
-cond-true true e x y = refl
-cond-true false e x y = absurd (true≢false (sym e))
+pub cond_true : {A : Type 0} (b : Bool) → b ≡ true → (x y : A) → cond b x y ≡ x
+cond_true true e x y = refl
+cond_true false e x y = absurd (true≢false (sym e))
 
-pub cond-false : {A : Type 0} (b : Bool) → b ≡ false → (x y : A) → cond b x y ≡ y
-cond-false true e x y = absurd (true≢false e)
-cond-false false e x y = refl
+pub cond_false : {A : Type 0} (b : Bool) → b ≡ false → (x y : A) → cond b x y ≡ y
+cond_false true e x y = absurd (true≢false e)
+cond_false false e x y = refl
 
 pub and_first : (a b : Bool) → a ≡ false → (a && b) ≡ false
 and_first true b e = absurd (true≢false e)

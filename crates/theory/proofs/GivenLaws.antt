@@ -4,29 +4,29 @@ use mathlib.Core.Bool.{Bool, true, false, true≢false}
 use Prim.Native.Nat.{ℕ, ◌≤◌, zero-le}
 use Rattle.theory.specs.Sums.{given}
 
-pub given-if : (b : Bool) {x y : ℕ} → (b ≡ true → x ≡ y) → given b x ≡ given b y
+pub given_if : (b : Bool) {x y : ℕ} → (b ≡ true → x ≡ y) → given b x ≡ given b y
 unfolding given
-given-if true e = e refl
-given-if false e = refl
+given_if true e = e refl
+given_if false e = refl
 
-pub given-comm : (a b : Bool) (x : ℕ) → given a (given b x) ≡ given b (given a x)
+pub given_comm : (a b : Bool) (x : ℕ) → given a (given b x) ≡ given b (given a x)
 unfolding given
-given-comm true true x = refl
-given-comm true false x = refl
-given-comm false true x = refl
-given-comm false false x = refl
+given_comm true true x = refl
+given_comm true false x = refl
+given_comm false true x = refl
+given_comm false false x = refl
 
 -- where one test passes another does, at as much or more
-pub given-implied : (a b : Bool) {x y : ℕ} → (a ≡ true → b ≡ true) → (a ≡ true → x ≤ y) → given a x ≤ given b y
+pub given_implied : (a b : Bool) {x y : ℕ} → (a ≡ true → b ≡ true) → (a ≡ true → x ≤ y) → given a x ≤ given b y
 unfolding given
-given-implied true true t h = h refl
-given-implied true false t h = absurd (true≢false (sym (t refl)))
-given-implied false b t h = zero-le
+given_implied true true t h = h refl
+given_implied true false t h = absurd (true≢false (sym (t refl)))
+given_implied false b t h = zero-le
 
-pub given-true : (b : Bool) (x : ℕ) → b ≡ true → given b x ≡ x
+pub given_true : (b : Bool) (x : ℕ) → b ≡ true → given b x ≡ x
 unfolding given
-given-true b x e = rw e
+given_true b x e = rw e
 
-pub given-false : (b : Bool) (x : ℕ) → b ≡ false → given b x ≡ 0
+pub given_false : (b : Bool) (x : ℕ) → b ≡ false → given b x ≡ 0
 unfolding given
-given-false b x e = rw e
+given_false b x e = rw e

@@ -13,9 +13,9 @@ use native.Mathlib.Omega.{arith, by_contra}
 use lib.Dec.{eqb}
 use borrow.Author.Tests.{eqb-true, eqb-false, eq-eqb, ne_eqb, not-true, not-false}
 use Rattle.theory.specs.Lowest.{Found, at, nowhere, lowest, some}
-use Rattle.theory.specs.Ways.{walk, onRing, OneWay, RingFree, UpslopeFirst}
-use Rattle.theory.proofs.LowestLaws.{lowest-at, lowest-none, some-true, true-some, some-false, false-some}
-use Rattle.theory.proofs.SumLaws.{sum_same, sum-injection, sum-cover}
+use Rattle.theory.specs.Ways.{walk, on_ring, OneWay, RingFree, UpslopeFirst}
+use Rattle.theory.proofs.LowestLaws.{lowest_at, lowest_none, some_true, true_some, some_false, false_some}
+use Rattle.theory.proofs.SumLaws.{sum_same, sum_injection, sum_cover}
 
 pub pigeonhole : (n : ℕ) (f : ℕ → ℕ) → ((k : ℕ) → k < suc n → f k < n) → (a : ℕ) × (b : ℕ) × (a < b) × (b < suc n) × (f a ≡ f b)
 pigeonhole n f inside = go (some (suc n) twice) refl
@@ -25,49 +25,49 @@ pigeonhole n f inside = go (some (suc n) twice) refl
 
     apart : some (suc n) twice ≡ false → (s t : ℕ) → s < suc n → f s ≡ f t → s ≤ t
     apart e s t h q =
-        by_contra s t (λ l. eqb-false (f t) (f s) (some-false s (λ a. eqb (f a) (f s)) (some-false (suc n) twice e s h) t l) (sym q))
+        by_contra s t (λ l. eqb-false (f t) (f s) (some_false s (λ a. eqb (f a) (f s)) (some_false (suc n) twice e s h) t l) (sym q))
 
     go : (t : Bool) → some (suc n) twice ≡ t → (a : ℕ) × (b : ℕ) × (a < b) × (b < suc n) × (f a ≡ f b)
     go true e =
-        let (b, h, p) = some-true (suc n) twice e in
-        let (a, l, q) = some-true b (λ a. eqb (f a) (f b)) p in
+        let (b, h, p) = some_true (suc n) twice e in
+        let (a, l, q) = some_true b (λ a. eqb (f a) (f b)) p in
         (a, b, l, h, eqb-true (f a) (f b) q)
     go false e =
         absurd (omega (
           arith,
           sum_same (suc n) 1,
           sum_same n 1,
-          sum-injection (suc n) n f (λ i. 1) inside (λ s t a b q. le_antisymm (apart e s t a q) (apart e t s b (sym q))),
+          sum_injection (suc n) n f (λ i. 1) inside (λ s t a b q. le_antisymm (apart e s t a q) (apart e t s b (sym q))),
         ))
 
-pub walk-add : (next : ℕ → ℕ) (a b i : ℕ) → walk next (a + b) i ≡ walk next a (walk next b i)
+pub walk_add : (next : ℕ → ℕ) (a b i : ℕ) → walk next (a + b) i ≡ walk next a (walk next b i)
 unfolding walk
-walk-add next zero b i = rw zero-add
-walk-add next (suc a) b i = rw suc-add (ap next (walk-add next a b i))
+walk_add next zero b i = rw zero-add
+walk_add next (suc a) b i = rw suc-add (ap next (walk_add next a b i))
 
 -- a walk around that comes by one place twice may leave out the way between
 shorter : (next : ℕ → ℕ) (i j a b : ℕ) → walk next (suc j) i ≡ i → b ≤ j → walk next a i ≡ walk next b i
     → walk next (suc (j - b + a)) i ≡ i
 unfolding walk
 shorter next i j a b e h q =
-    ap next (walk-add next (j - b) a i ∙ ap (walk next (j - b)) q ∙ sym (walk-add next (j - b) b i) ∙ rw sub-add_cancel) ∙ e
+    ap next (walk_add next (j - b) a i ∙ ap (walk next (j - b)) q ∙ sym (walk_add next (j - b) b i) ∙ rw sub-add_cancel) ∙ e
 
 module _ (n : ℕ) (next : ℕ → ℕ) where
   -- what leads inside is inside
-  from-inside : OneWay n next → (d i : ℕ) → walk next d i < n → i < n
+  from_inside : OneWay n next → (d i : ℕ) → walk next d i < n → i < n
   unfolding walk
-  from-inside out zero i h = h
-  from-inside out (suc d) i h = from-inside out d i (by_contra _ _ (λ l. not-le_of_lt h (out.outside _ (le_of_suc-le-suc l))))
+  from_inside out zero i h = h
+  from_inside out (suc d) i h = from_inside out d i (by_contra _ _ (λ l. not-le_of_lt h (out.outside _ (le_of_suc-le-suc l))))
 
-  pub ring-steps : OneWay n next → (i k : ℕ) → i < n → walk next (suc k) i ≡ i → onRing n next i ≡ true
-  unfolding onRing walk
-  ring-steps out i k h e = go (lowest (suc k) back) refl
+  pub ring_steps : OneWay n next → (i k : ℕ) → i < n → walk next (suc k) i ≡ i → on_ring n next i ≡ true
+  unfolding on_ring walk
+  ring_steps out i k h e = go (lowest (suc k) back) refl
     where
       back : ℕ → Bool
       back j = eqb (walk next (suc j) i) i
 
       inside : (j : ℕ) → walk next (suc j) i ≡ i → (s : ℕ) → s ≤ suc j → walk next s i < n
-      inside j p s m = from-inside out (suc j - s) (walk next s i) (rw (← walk-add, sub-add_cancel, p) h)
+      inside j p s m = from_inside out (suc j - s) (walk next s i) (rw (← walk_add, sub-add_cancel, p) h)
 
       least : (j : ℕ) → walk next (suc j) i ≡ i → ((c : ℕ) → c < j → back c ≡ false) → j < n
       least j p none =
@@ -77,26 +77,26 @@ module _ (n : ℕ) (next : ℕ → ℕ) where
 
       go : (r : Found) → lowest (suc k) back ≡ r → some n back ≡ true
       go (at j) q =
-          let (_, p, none) = lowest-at (suc k) back q in
-          true-some n back j (least j (eqb-true (walk next (suc j) i) i p) none) p
-      go nowhere q = absurd (true≢false (sym (eq-eqb (walk next (suc k) i) i e) ∙ lowest-none (suc k) back q k (lt-suc_self k)))
+          let (_, p, none) = lowest_at (suc k) back q in
+          true_some n back j (least j (eqb-true (walk next (suc j) i) i p) none) p
+      go nowhere q = absurd (true≢false (sym (eq-eqb (walk next (suc k) i) i e) ∙ lowest_none (suc k) back q k (lt-suc_self k)))
 
-  pub ring-back : (i : ℕ) → onRing n next i ≡ true → (k : ℕ) × (k < n) × (walk next (suc k) i ≡ i)
-  unfolding onRing
-  ring-back i e = let (k, h, q) = some-true n (λ j. eqb (walk next (suc j) i) i) e in (k, h, eqb-true (walk next (suc k) i) i q)
+  pub ring_back : (i : ℕ) → on_ring n next i ≡ true → (k : ℕ) × (k < n) × (walk next (suc k) i ≡ i)
+  unfolding on_ring
+  ring_back i e = let (k, h, q) = some_true n (λ j. eqb (walk next (suc j) i) i) e in (k, h, eqb-true (walk next (suc k) i) i q)
 
-  pub ring-free : ((i : ℕ) → i < n → onRing n next i ≡ false) → OneWay n next → RingFree n next
-  ring-free off out = record { free = λ i k h e. true≢false (sym (ring-steps out i k h e) ∙ off i h) }
+  pub ring_free : ((i : ℕ) → i < n → on_ring n next i ≡ false) → OneWay n next → RingFree n next
+  ring_free off out = record { free = λ i k h e. true≢false (sym (ring_steps out i k h e) ∙ off i h) }
 
-  pub free-ring : RingFree n next → (i : ℕ) → i < n → onRing n next i ≡ false
-  unfolding onRing
-  free-ring r i h = false-some n (λ j. eqb (walk next (suc j) i) i) (λ k l. ne_eqb (walk next (suc k) i) i (r.free i k h))
+  pub free_ring : RingFree n next → (i : ℕ) → i < n → on_ring n next i ≡ false
+  unfolding on_ring
+  free_ring r i h = false_some n (λ j. eqb (walk next (suc j) i) i) (λ k l. ne_eqb (walk next (suc k) i) i (r.free i k h))
 
-  pub fed-on-ring : OneWay n next → (S : ℕ → Bool)
+  pub fed_on_ring : OneWay n next → (S : ℕ → Bool)
       → ((i : ℕ) → i < n → S i ≡ true → (j : ℕ) × (j < n) × (S j ≡ true) × (next j ≡ i))
-      → (i : ℕ) → i < n → S i ≡ true → onRing n next i ≡ true
+      → (i : ℕ) → i < n → S i ≡ true → on_ring n next i ≡ true
   unfolding walk
-  fed-on-ring out S fed i h e = let (a, b, l, _, q) = pigeonhole n (λ k. (back k).0) (λ k _. (back k).1) in around a b l q
+  fed_on_ring out S fed i h e = let (a, b, l, _, q) = pigeonhole n (λ k. (back k).0) (λ k _. (back k).1) in around a b l q
     where
       back : ℕ → (j : ℕ) × (j < n) × (S j ≡ true)
       back zero = (i, h, e)
@@ -106,24 +106,24 @@ module _ (n : ℕ) (next : ℕ → ℕ) where
       forth zero = refl
       forth (suc k) =
           let b = back k in
-          ap (λ (m : ℕ). walk next m (back (suc k)).0) (sym (add-one k)) ∙ walk-add next k 1 (back (suc k)).0
+          ap (λ (m : ℕ). walk next m (back (suc k)).0) (sym (add-one k)) ∙ walk_add next k 1 (back (suc k)).0
           ∙ ap (walk next k) (fed b.0 b.1 b.2).3 ∙ forth k
 
-      around : (a b : ℕ) → a < b → (back a).0 ≡ (back b).0 → onRing n next i ≡ true
+      around : (a b : ℕ) → a < b → (back a).0 ≡ (back b).0 → on_ring n next i ≡ true
       around a b l q =
           let d = b - suc a in
           let to : suc d + a ≡ b = omega arith in
-          ring-steps out i d h
-          (ap (walk next (suc d)) (sym (forth a)) ∙ sym (walk-add next (suc d) a (back a).0) ∙ rw (to, q) (forth b))
+          ring_steps out i d h
+          (ap (walk next (suc d)) (sym (forth a)) ∙ sym (walk_add next (suc d) a (back a).0) ∙ rw (to, q) (forth b))
 
-  pub order-free : UpslopeFirst n next → OneWay n next → RingFree n next
+  pub order_free : UpslopeFirst n next → OneWay n next → RingFree n next
   unfolding walk
-  order-free u out = record { free = λ i k h e. let up = rises i k h (rw e h) in let same = ap u.turn e in omega arith }
+  order_free u out = record { free = λ i k h e. let up = rises i k h (rw e h) in let same = ap u.turn e in omega arith }
     where
       rises : (i k : ℕ) → i < n → walk next (suc k) i < n → u.turn i < u.turn (walk next (suc k) i)
       rises i zero h l = u.after i h l
       rises i (suc k) h l =
-          let m : walk next (suc k) i < n = from-inside out 1 (walk next (suc k) i) l in
+          let m : walk next (suc k) i < n = from_inside out 1 (walk next (suc k) i) l in
           lt_trans (rises i k h m) (u.after (walk next (suc k) i) m l)
 
 place : Found → ℕ
@@ -136,8 +136,8 @@ unfolding place
 found n test = go (lowest n test) refl
   where
     go : (r : Found) → lowest n test ≡ r → ((place r < n) × (test (place r) ≡ true)) ⊎ ((j : ℕ) → j < n → test j ≡ false)
-    go (at i) e = let (h, t, _) = lowest-at n test e in inl (h, t)
-    go nowhere e = inr (lowest-none n test e)
+    go (at i) e = let (h, t, _) = lowest_at n test e in inl (h, t)
+    go nowhere e = inr (lowest_none n test e)
 
 module _ (n : ℕ) (next : ℕ → ℕ) where
   -- of the places in S, i is one to which none of S leads
@@ -163,8 +163,8 @@ module _ (n : ℕ) (next : ℕ → ℕ) where
   abbrev visit : ℕ → ℕ
   visit k = pick (left k)
 
-  turn-of : ℕ → ℕ
-  turn-of i = place (lowest n (λ t. eqb (visit t) i))
+  turn_of : ℕ → ℕ
+  turn_of i = place (lowest n (λ t. eqb (visit t) i))
 
   gone : (k i : ℕ) → left k i ≡ false → (t : ℕ) × (t < k) × (visit t ≡ i)
   unfolding left
@@ -198,26 +198,26 @@ module _ (n : ℕ) (next : ℕ → ℕ) where
             record {
               inside = p.0;
               fresh = a;
-              first = λ j l s. rw (eq-eqb (next j) m s) at (some-false n (leads S m) (not-true (some n (leads S m)) b) j l);
+              first = λ j l s. rw (eq-eqb (next j) m s) at (some_false n (leads S m) (not-true (some n (leads S m)) b) j l);
             }
 
         fed : ((j : ℕ) → j < n → ready S j ≡ false) → (c : ℕ) → c < n → S c ≡ true → (j : ℕ) × (j < n) × (S j ≡ true) × (next j ≡ c)
         fed none c l s =
-            let (j, m, p) = some-true n (leads S c) (not-false (some n (leads S c)) (rw s at (none c l))) in
+            let (j, m, p) = some_true n (leads S c) (not-false (some n (leads S c)) (rw s at (none c l))) in
             let (a, b) = (and-eq-true_iff (eqb (next j) c) (S j)).0 p in
             (j, m, b, eqb-true (next j) c a)
 
         bad : ((j : ℕ) → j < n → ready S j ≡ false) → ⊥
-        bad none = true≢false (sym (fed-on-ring n next out S (fed none) i h e) ∙ free-ring n next r i h)
+        bad none = true≢false (sym (fed_on_ring n next out S (fed none) i h e) ∙ free_ring n next r i h)
 
     -- fewer turns than n leave a place, so that each visits one that is ready
     each : (k : ℕ) → k < n → Ready (left k) (visit k)
     each k h = go (some n (left k)) refl
       where
         go : (b : Bool) → some n (left k) ≡ b → Ready (left k) (visit k)
-        go true e = let (i, l, p) = some-true n (left k) e in picked (left k) i l p
+        go true e = let (i, l, p) = some_true n (left k) e in picked (left k) i l p
         go false e =
-            absurd (omega (arith, sum_same n 1, sum_same k 1, sum-cover k n visit (λ i. 1) (λ i l. gone k i (some-false n (left k) e i l))))
+            absurd (omega (arith, sum_same n 1, sum_same k 1, sum_cover k n visit (λ i. 1) (λ i l. gone k i (some_false n (left k) e i l))))
 
     -- a place left after n turns would be a new one for another turn, the n + 1st
     emptied : (i : ℕ) → i < n → left n i ≡ false
@@ -230,32 +230,32 @@ module _ (n : ℕ) (next : ℕ → ℕ) where
         go true e = let (a, b, l, m, q) = pigeonhole n visit (λ k l. (all e k l).inside) in absurd (new a b l (all e b m).fresh q)
         go false e = refl
 
-    in-turn : (i : ℕ) → i < n → (turn-of i < n) × (visit (turn-of i) ≡ i)
-    unfolding turn-of
-    in-turn i h =
+    in_turn : (i : ℕ) → i < n → (turn_of i < n) × (visit (turn_of i) ≡ i)
+    unfolding turn_of
+    in_turn i h =
         let (t, l, q) = gone n i (emptied i h) in
-        ⊎_elim (λ p. (p.0, eqb-true (visit (turn-of i)) i p.1)) (λ none. absurd (eqb-false (visit t) i (none t l) q))
+        ⊎_elim (λ p. (p.0, eqb-true (visit (turn_of i)) i p.1)) (λ none. absurd (eqb-false (visit t) i (none t l) q))
         (found n (λ t. eqb (visit t) i))
 
     once : (s t : ℕ) → s < n → t < n → visit s ≡ visit t → s ≡ t
     once s t a b q =
         le_antisymm (by_contra s t (λ l. new t s l (each s a).fresh (sym q))) (by_contra t s (λ l. new s t l (each t b).fresh q))
 
-    pub free-order : UpslopeFirst n next
-    free-order =
+    pub free_order : UpslopeFirst n next
+    free_order =
         record {
           who = visit;
-          turn = turn-of;
+          turn = turn_of;
           placed = λ t h. (each t h).inside;
-          turned = λ i h. (in-turn i h).0;
-          who-turn = λ i h. (in-turn i h).1;
-          turn-who = λ t h. let (l, e) = in-turn (visit t) (each t h).inside in once (turn-of (visit t)) t l h e;
-          after = λ j h l. earlier j h (in-turn (next j) l);
+          turned = λ i h. (in_turn i h).0;
+          who_turn = λ i h. (in_turn i h).1;
+          turn_who = λ t h. let (l, e) = in_turn (visit t) (each t h).inside in once (turn_of (visit t)) t l h e;
+          after = λ j h l. earlier j h (in_turn (next j) l);
         }
       where
-        earlier : (j : ℕ) → j < n → {t : ℕ} → (t < n) × (visit t ≡ next j) → turn-of j < t
+        earlier : (j : ℕ) → j < n → {t : ℕ} → (t < n) × (visit t ≡ next j) → turn_of j < t
         earlier j h {t} p =
             let (s, l, q) = gone t j ((each t p.0).first j h (sym p.1)) in
-            let (a, b) = in-turn j h in
-            let e = once (turn-of j) s a (lt_trans l p.0) (b ∙ sym q) in
+            let (a, b) = in_turn j h in
+            let e = once (turn_of j) s a (lt_trans l p.0) (b ∙ sym q) in
             omega arith

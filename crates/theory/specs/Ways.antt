@@ -8,8 +8,8 @@ walk next zero i = i
 walk next (suc k) i = next (walk next k i)
 
 -- i leads back to itself: on some step from the first to the n-th
-unfoldable pub onRing : ℕ → (ℕ → ℕ) → ℕ → Bool
-onRing n next i = some n (λ k. eqb (walk next (suc k) i) i)
+unfoldable pub on_ring : ℕ → (ℕ → ℕ) → ℕ → Bool
+on_ring n next i = some n (λ k. eqb (walk next (suc k) i) i)
 
 -- outside stays outside
 pub record OneWay (n : ℕ) (next : ℕ → ℕ) : Type 0 where
@@ -25,6 +25,6 @@ pub record UpslopeFirst (n : ℕ) (next : ℕ → ℕ) : Type 0 where
   pub turn : ℕ → ℕ
   pub placed : (t : ℕ) → t < n → who t < n
   pub turned : (i : ℕ) → i < n → turn i < n
-  pub who-turn : (i : ℕ) → i < n → who (turn i) ≡ i
-  pub turn-who : (t : ℕ) → t < n → turn (who t) ≡ t
+  pub who_turn : (i : ℕ) → i < n → who (turn i) ≡ i
+  pub turn_who : (t : ℕ) → t < n → turn (who t) ≡ t
   pub after : (j : ℕ) → j < n → next j < n → turn j < turn (next j)

@@ -1,11 +1,13 @@
 // Runs the program's whole text over many inputs and compares with stored outputs. The file `vectors` holds them: for each two lengths of six digits,
 // the input's bytes and the output's, as bench/vectors.c wrote them from the plain C; docs/vectors.txt says what each is for.
+#![tactic(auto)]
+
 ghost use Rattle.std.specs.Prelude.{◌≡◌, ◌≤◌, true, length};
 
 use text::{MOST_TEXT, Written};
 
 // What came of one vector.
-#[derive(Drop)]
+#[derive(Clone, Copy)]
 enum Came {
     Same,
     Different,
@@ -13,7 +15,7 @@ enum Came {
     Damaged,
 }
 
-#[derive(Drop)]
+#[derive(Clone, Copy)]
 enum Lengths {
     Sizes(usize, usize),
     Nothing,
@@ -150,7 +152,7 @@ fn counted(count: u64, differ: u64) {
 }
 
 // How far the walk is. The counts cannot wrap: there are 100,000 turns at most.
-#[derive(Drop)]
+#[derive(Clone, Copy)]
 struct Tally {
     count: u64,
     differ: u64,

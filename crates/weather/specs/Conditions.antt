@@ -1,24 +1,24 @@
 -- The code's antecedent conditions as the paper's, and the curve number in them.
 use Rattle.std.specs.Prelude.{cond, ℕ, ◌≤◌}
-use Rattle.paper.specs.Limits.{within, leastCurveNumber, mostCurveNumber, mostGross}
+use Rattle.paper.specs.Limits.{within, least_curve_number, most_curve_number, most_gross}
 use Rattle.paper.specs.State.{Memory}
 use Rattle.paper.specs.CurveNumber as paper
 use Rattle.weather.specs.declared.conditions.Condition.{Condition}
 use Rattle.weather.specs.declared.conditions.Condition.TheVariants.{I, II, III}
 
-abbrev pub conditionAs : Condition → paper.Condition
-conditionAs I = paper.I
-conditionAs II = paper.II
-conditionAs III = paper.III
+abbrev pub condition_as : Condition → paper.Condition
+condition_as I = paper.I
+condition_as II = paper.II
+condition_as III = paper.III
 
 -- no figure is above a day's largest gross precipitation
 pub record FiveFit (m : Memory) : Type 0 where
-  pub oldest : m.oldest ≤ mostGross
-  pub fourth : m.fourth ≤ mostGross
-  pub third : m.third ≤ mostGross
-  pub second : m.second ≤ mostGross
-  pub yesterday : m.yesterday ≤ mostGross
+  pub oldest : m.oldest ≤ most_gross
+  pub fourth : m.fourth ≤ most_gross
+  pub third : m.third ≤ most_gross
+  pub second : m.second ≤ most_gross
+  pub yesterday : m.yesterday ≤ most_gross
 
 -- the table's N in a condition; a number outside the table's limits is handed back
-unfoldable pub curveNumberBy : paper.Condition → ℕ → ℕ
-curveNumberBy c N = cond (within leastCurveNumber mostCurveNumber N) (paper.curveNumber c N) N
+unfoldable pub curve_number_by : paper.Condition → ℕ → ℕ
+curve_number_by c N = cond (within least_curve_number most_curve_number N) (paper.curve_number c N) N

@@ -1,16 +1,16 @@
 // Rule 5: the antecedent condition, what it counts as in frost, and the curve number in it.
 ghost use Rattle.std.specs.Prelude.{◌≡◌, ◌<◌};
-ghost use Rattle.paper.specs.State.{fiveDays};
-ghost use Rattle.paper.specs.CurveNumber.{class as class_of, conditionOf, nearest as rounded};
-ghost use Rattle.paper.specs.Frost.{counted, notDry};
-ghost use Rattle.records.specs.Grids.{setpointsAs};
-ghost use Rattle.records.specs.Past.{memoryAs};
-ghost use Rattle.weather.specs.Conditions.{conditionAs, FiveFit, curveNumberBy};
+ghost use Rattle.paper.specs.State.{five_days};
+ghost use Rattle.paper.specs.CurveNumber.{class as class_of, condition_of, nearest as rounded};
+ghost use Rattle.paper.specs.Frost.{counted, not_dry};
+ghost use Rattle.records.specs.Grids.{setpoints_as};
+ghost use Rattle.records.specs.Past.{memory_as};
+ghost use Rattle.weather.specs.Conditions.{condition_as, FiveFit, curve_number_by};
 
 use records::{CurveNumber, Depth, FrostIndex, Memory, Setpoints};
 
 // By the rain of the five previous days: I is dry, II average, III wet.
-#[derive(Drop)]
+#[derive(Clone, Copy)]
 pub enum Condition {
     I,
     II,
@@ -18,8 +18,8 @@ pub enum Condition {
 }
 
 fn five_days(memory: Memory) -> Depth
-    requires { FiveFit (memoryAs memory) }
-    ensures { result.0 ≡ fiveDays (memoryAs memory) }
+    requires { FiveFit (memory_as memory) }
+    ensures { result.0 ≡ five_days (memory_as memory) }
 {
     let oldest = memory.oldest.0;
     let fourth = memory.fourth.0;
@@ -30,7 +30,7 @@ fn five_days(memory: Memory) -> Depth
 }
 
 fn class(low: Depth, high: Depth, rain: Depth) -> Condition
-    ensures { conditionAs result ≡ class_of low.0 high.0 rain.0 }
+    ensures { condition_as result ≡ class_of low.0 high.0 rain.0 }
 {
     if rain.0 < low.0 {
         return Condition::I;
@@ -42,8 +42,8 @@ fn class(low: Depth, high: Depth, rain: Depth) -> Condition
 }
 
 pub(crate) fn condition_of(growing: bool, memory: Memory) -> Condition
-    requires { FiveFit (memoryAs memory) }
-    ensures { conditionAs result ≡ conditionOf growing (fiveDays (memoryAs memory)) }
+    requires { FiveFit (memory_as memory) }
+    ensures { condition_as result ≡ condition_of growing (five_days (memory_as memory)) }
 {
     let rain = five_days(memory);
     if growing {
@@ -54,7 +54,7 @@ pub(crate) fn condition_of(growing: bool, memory: Memory) -> Condition
 }
 
 fn not_dry(condition: Condition) -> Condition
-    ensures { conditionAs result ≡ notDry (conditionAs condition) }
+    ensures { condition_as result ≡ not_dry (condition_as condition) }
 {
     match condition {
         Condition::I => Condition::II,
@@ -65,7 +65,7 @@ fn not_dry(condition: Condition) -> Condition
 
 // What a day's condition counts as, by the frost index that the day has set: at or above a setpoint it is reached.
 pub(crate) fn counted_as(setpoints: Setpoints, index: FrostIndex, condition: Condition) -> Condition
-    ensures { conditionAs result ≡ counted (setpointsAs setpoints) index.0 (conditionAs condition) }
+    ensures { condition_as result ≡ counted (setpoints_as setpoints) index.0 (condition_as condition) }
 {
     if setpoints.second.0 <= index.0 {
         return Condition::III;
@@ -86,7 +86,7 @@ fn nearest(p: u64, q: u64) -> u64
 
 // The table's curve number in the day's condition; a number outside the table's limits is handed back.
 pub fn curve_number(condition: Condition, table: CurveNumber) -> CurveNumber
-    ensures { result.0 ≡ curveNumberBy (conditionAs condition) table.0 }
+    ensures { result.0 ≡ curve_number_by (condition_as condition) table.0 }
 {
     let n = table.0;
     if n < CurveNumber::LEAST.0 {

@@ -1,4 +1,6 @@
 // What the rules read of a day: snow or rain, melt, and the antecedent condition with its curve numbers. Every function here answers every input.
+#![tactic(auto)]
+
 mod conditions;
 mod snow;
 mod today;

@@ -1,6 +1,6 @@
 // Rule 3: snow or rain, and melt.
 ghost use Rattle.std.specs.Prelude.{◌≡◌};
-ghost use Rattle.paper.specs.Snow.{fallsAsSnow, meltable as rule3, melt as meltOf};
+ghost use Rattle.paper.specs.Snow.{falls_as_snow, meltable as rule3, melt as melt_of};
 ghost use Rattle.records.specs.Days.{tenths};
 ghost use Rattle.weather.specs.Today.{Measured};
 
@@ -9,7 +9,7 @@ use records::{Depth, TenthF};
 // Three times the mean less the span of the day's temperatures, held to three times the freezing point.
 pub(crate) fn falls_as_snow(minimum: TenthF, mean: TenthF, maximum: TenthF) -> bool
     requires { Measured minimum × Measured mean × Measured maximum }
-    ensures { result ≡ fallsAsSnow (tenths minimum) (tenths mean) (tenths maximum) }
+    ensures { result ≡ falls_as_snow (tenths minimum) (tenths mean) (tenths maximum) }
 {
     let freezing = TenthF::FREEZING.0;
     let span = maximum.0 - minimum.0;
@@ -25,7 +25,7 @@ pub(crate) fn meltable(maximum: TenthF) -> Depth
 }
 
 pub fn melt(store: Depth, most: Depth) -> Depth
-    ensures { result.0 ≡ meltOf store.0 most.0 }
+    ensures { result.0 ≡ melt_of store.0 most.0 }
 {
     store.smaller(most)
 }

@@ -1,17 +1,17 @@
 // What the rules read of the day: alike for every cell, and worked out once.
 ghost use Rattle.std.specs.Prelude.{true, ◌≡◌};
-ghost use Rattle.paper.specs.State.{memoryFits, dayFits};
+ghost use Rattle.paper.specs.State.{memory_fits, day_fits};
 ghost use Rattle.paper.specs.CellDay.{today as paperDay};
-ghost use Rattle.records.specs.Grids.{climateAs};
-ghost use Rattle.records.specs.Past.{memoryAs, pastAs};
-ghost use Rattle.records.specs.Days.{dayAs};
-ghost use Rattle.weather.specs.Today.{todayAs, noWeather, weatherOf};
+ghost use Rattle.records.specs.Grids.{climate_as};
+ghost use Rattle.records.specs.Past.{memory_as, past_as};
+ghost use Rattle.records.specs.Days.{day_as};
+ghost use Rattle.weather.specs.Today.{today_as, no_weather, weather_of};
 
 use crate::conditions::{Condition, condition_of, counted_as};
 use crate::snow::{falls_as_snow, meltable as melts};
 use records::{Climate, DayRecord, Depth, Past, frost_after};
 
-#[derive(Drop)]
+#[derive(Clone, Copy)]
 pub struct Today {
     pub gross: Depth,
     pub potential: Depth,
@@ -25,8 +25,8 @@ pub struct Today {
 
 // Of a day and a memory within their limits.
 fn weather_of(climate: Climate, past: Past, day: DayRecord) -> Today
-    requires { (dayFits (dayAs day) ≡ true) × (memoryFits (memoryAs past.memory) ≡ true) }
-    ensures { todayAs result ≡ paperDay (climateAs climate) (pastAs past) (dayAs day) }
+    requires { (day_fits (day_as day) ≡ true) × (memory_fits (memory_as past.memory) ≡ true) }
+    ensures { today_as result ≡ paperDay (climate_as climate) (past_as past) (day_as day) }
 {
     let gross = day.gross;
     let potential = day.potential;
@@ -50,7 +50,7 @@ fn weather_of(climate: Climate, past: Past, day: DayRecord) -> Today
 }
 
 fn no_weather() -> Today
-    ensures { todayAs result ≡ noWeather }
+    ensures { today_as result ≡ no_weather }
 {
     Today {
         gross: Depth(0),
@@ -63,7 +63,7 @@ fn no_weather() -> Today
 }
 
 pub fn today_of(climate: Climate, past: Past, day: DayRecord) -> Today
-    ensures { todayAs result ≡ weatherOf (climateAs climate) (pastAs past) (dayAs day) }
+    ensures { today_as result ≡ weather_of (climate_as climate) (past_as past) (day_as day) }
 {
     let memory = past.memory;
     if !day.fits() {

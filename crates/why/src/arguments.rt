@@ -2,13 +2,13 @@
 use words::{Meaning, number};
 
 // The days that are asked about.
-#[derive(Drop)]
+#[derive(Clone, Copy)]
 pub(crate) enum Wanted {
     Every,
     Serial(u32),
 }
 
-#[derive(Drop)]
+#[derive(Clone, Copy)]
 pub(crate) enum Asked {
     Cell(u32, Wanted),
     // What was asked is wrong, and that was said.

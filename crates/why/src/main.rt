@@ -1,5 +1,6 @@
 // The program `why`: why a cell got its figures on the days of a text of `balance`, or on one of them. Where the input can't be read nothing is printed; a
 // failed read or write, and an argument that is wrong, is said on standard error.
+#![tactic(auto)]
 
 mod arguments;
 mod printing;

@@ -9,7 +9,7 @@ use records::{Refusal, wide};
 use words::{put_bytes, put_item};
 
 // How many days were shown, whether more are to be run, and whether the run ends with an `end`.
-#[derive(Drop)]
+#[derive(Clone, Copy)]
 pub(crate) struct Progress {
     pub(crate) shown: u64,
     pub(crate) goes_on: bool,

@@ -9,27 +9,27 @@ use native.Mathlib.Omega.{arith}
 use lib.ListN.{length, get_or, set, take, length-append}
 use lib.Seq.{sets, length-sets, set_out, take-suc, take_all}
 use Rattle.theory.proofs.Cases.{below_or_not}
-use Rattle.theory.proofs.ListLaws.{sets-append}
+use Rattle.theory.proofs.ListLaws.{sets_append}
 use Rattle.words.specs.Writing.{farthest, Put, Wrote}
 
-pub sets-out : (xs l : List ℕ) (i : ℕ) → length l ≤ i → sets l i xs ≡ l
-sets-out [] l i h = refl
-sets-out (x ∷ xs) l i h = rw (set_out l i x h) (sets-out xs l (suc i) (omega arith))
+pub sets_out : (xs l : List ℕ) (i : ℕ) → length l ≤ i → sets l i xs ≡ l
+sets_out [] l i h = refl
+sets_out (x ∷ xs) l i h = rw (set_out l i x h) (sets_out xs l (suc i) (omega arith))
 
 -- a place past the farthest is past every buffer's end, as the farthest is
 far : (ys l : List ℕ) (i : ℕ) → length l ≤ farthest → sets l (min i farthest) ys ≡ sets l i ys
 far ys l i h =
     below_or_not i farthest (λ near. ap (λ (k : ℕ). sets l k ys) (omega arith))
-    (λ past. sets-out ys l (min i farthest) (omega arith) ∙ sym (sets-out ys l i (omega arith)))
+    (λ past. sets_out ys l (min i farthest) (omega arith) ∙ sym (sets_out ys l i (omega arith)))
 
-pub put-length : {at r : ℕ} {xs l l' : List ℕ} → Put at xs l l' r → length l' ≡ length l
-put-length {at} {r} {xs} {l} {l'} w = ap length w.buffer ∙ length-sets l at xs
+pub put_length : {at r : ℕ} {xs l l' : List ℕ} → Put at xs l l' r → length l' ≡ length l
+put_length {at} {r} {xs} {l} {l'} w = ap length w.buffer ∙ length-sets l at xs
 
 pub put_then :
     {at m r : ℕ} {xs ys l l₁ l₂ : List ℕ} → length l ≤ farthest → Put at xs l l₁ m → Put m ys l₁ l₂ r → Put at (xs ++ ys) l l₂ r
 put_then {at} {m} {r} {xs} {ys} {l} {l₁} {l₂} h w v =
     record {
-      buffer = v.buffer ∙ rw (w.end, far ys l₁ (at + length xs) (rw (put-length w) h), w.buffer) (sym (sets-append xs ys l at));
+      buffer = v.buffer ∙ rw (w.end, far ys l₁ (at + length xs) (rw (put_length w) h), w.buffer) (sym (sets_append xs ys l at));
       end = v.end ∙ omega (arith, w.end, length-append xs ys);
     }
 
@@ -39,17 +39,17 @@ put_as {at} {r} {xs} {l} {l'} ys w e = rw (← e) w
 
 -- nothing, and one byte: in the buffer, past its end, and at the farthest place
 module _ (at : ℕ) (l : List ℕ) where
-  pub put-none : at ≤ farthest → Put at [] l l at
-  put-none h = record { buffer = refl; end = omega arith }
+  pub put_none : at ≤ farthest → Put at [] l l at
+  put_none h = record { buffer = refl; end = omega arith }
 
-  pub put-inside : (x : ℕ) → at < length l → length l ≤ farthest → Put at (x ∷ []) l (set l at x) (at + 1)
-  put-inside x h room = record { buffer = refl; end = omega arith }
+  pub put_inside : (x : ℕ) → at < length l → length l ≤ farthest → Put at (x ∷ []) l (set l at x) (at + 1)
+  put_inside x h room = record { buffer = refl; end = omega arith }
 
-  pub put-past : (x : ℕ) → length l ≤ at → at < farthest → Put at (x ∷ []) l l (at + 1)
-  put-past x h near = record { buffer = sym (set_out l at x h); end = omega arith }
+  pub put_past : (x : ℕ) → length l ≤ at → at < farthest → Put at (x ∷ []) l l (at + 1)
+  put_past x h near = record { buffer = sym (set_out l at x h); end = omega arith }
 
-  pub put-farthest : (x : ℕ) → length l ≤ at → at ≡ farthest → Put at (x ∷ []) l l at
-  put-farthest x h far = record { buffer = sym (set_out l at x h); end = omega arith }
+  pub put_farthest : (x : ℕ) → length l ≤ at → at ≡ farthest → Put at (x ∷ []) l l at
+  put_farthest x h far = record { buffer = sym (set_out l at x h); end = omega arith }
 
 -- bytes one by one
 pub put_next :
@@ -62,8 +62,8 @@ pub put_all : {at r : ℕ} {l l' : List ℕ} (bytes : List ℕ) (i : ℕ) → le
 put_all bytes i h w = put_as bytes w (take_all i bytes h)
 
 -- what is written of at most so many bytes
-pub wrote-length : {a at r : ℕ} {xs l l' : List ℕ} → Wrote a at xs l l' r → length l' ≡ length l
-wrote-length w = put-length w.put
+pub wrote_length : {a at r : ℕ} {xs l l' : List ℕ} → Wrote a at xs l l' r → length l' ≡ length l
+wrote_length w = put_length w.put
 
 -- the same bytes under another name, and their own bound
 pub wrote_as :
@@ -71,11 +71,11 @@ pub wrote_as :
     → Wrote b at ys l l' r
 wrote_as b ys w e h = record { put = put_as ys w.put e; short = h }
 
-pub wrote-whole : {a b at r : ℕ} {xs ys l l' : List ℕ} → ys ≡ xs → a ≤ b → Wrote a at xs l l' r → Wrote b at ys l l' r
-wrote-whole {b = b} {ys = ys} e h w = wrote_as b ys w (sym e) (omega (arith, w.short, ap length e))
+pub wrote_whole : {a b at r : ℕ} {xs ys l l' : List ℕ} → ys ≡ xs → a ≤ b → Wrote a at xs l l' r → Wrote b at ys l l' r
+wrote_whole {b = b} {ys = ys} e h w = wrote_as b ys w (sym e) (omega (arith, w.short, ap length e))
 
-pub wrote-bytes : {at r : ℕ} {xs l l' : List ℕ} → Put at xs l l' r → Wrote (length xs) at xs l l' r
-wrote-bytes {xs = xs} p = record { put = p; short = le_refl (length xs) }
+pub wrote_bytes : {at r : ℕ} {xs l l' : List ℕ} → Put at xs l l' r → Wrote (length xs) at xs l l' r
+wrote_bytes {xs = xs} p = record { put = p; short = le_refl (length xs) }
 
 -- one part after another, in a buffer as long as the machine's can be
 pub wrote_then :

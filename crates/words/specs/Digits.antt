@@ -4,12 +4,12 @@ use Prim.Native.String.{String, [] as none, ◌∷◌ as ◌then◌}
 use Prim.Native.Char.{code}
 
 -- the last digit after the others, which are those of the tenth part; `most` bounds their count
-unfoldable pub digitsWithin : ℕ → ℕ → List ℕ
-digitsWithin zero n = (48 + n) ∷ []
-digitsWithin (suc most) n = cond (ltb n 10) ((48 + n) ∷ []) (digitsWithin most (n / 10) ++ ((48 + n % 10) ∷ []))
+unfoldable pub digits_within : ℕ → ℕ → List ℕ
+digits_within zero n = (48 + n) ∷ []
+digits_within (suc most) n = cond (ltb n 10) ((48 + n) ∷ []) (digits_within most (n / 10) ++ ((48 + n % 10) ∷ []))
 
 unfoldable pub digits : ℕ → List ℕ
-digits n = digitsWithin n n
+digits n = digits_within n n
 
 -- a whole number as it is written: a minus, 45, before one below zero
 unfoldable pub written : ℤ → List ℕ

@@ -3,12 +3,12 @@ use Rattle.std.specs.Prelude.{Bool, true, false, cond, ◌&&◌, ◌||◌, List,
 use Rattle.words.specs.declared.numbers.Meaning.{Meaning}
 use Rattle.words.specs.declared.numbers.Meaning.TheVariants.{Plain, Below, Bad}
 
-unfoldable pub isDigit : ℕ → Bool
-isDigit b = leb 48 b && leb b 57
+unfoldable pub is_digit : ℕ → Bool
+is_digit b = leb 48 b && leb b 57
 
-unfoldable pub allDigits : List ℕ → Bool
-allDigits [] = true
-allDigits (b ∷ bs) = isDigit b && allDigits bs
+unfoldable pub all_digits : List ℕ → Bool
+all_digits [] = true
+all_digits (b ∷ bs) = is_digit b && all_digits bs
 
 -- the number that digits spell after some that spell `so_far`
 unfoldable pub spelled : ℕ → List ℕ → ℕ
@@ -20,13 +20,13 @@ pub data Word : Type 0 where
   good : ℤ → Word
   bad : Word
 
-unfoldable pub isFirstDigit : ℕ → Bool
-isFirstDigit b = leb 49 b && leb b 57
+unfoldable pub is_first_digit : ℕ → Bool
+is_first_digit b = leb 49 b && leb b 57
 
 -- 1 to 9 digits, no leading zero: a digit other than 0, and at most eight after it
-unfoldable pub isCount : List ℕ → Bool
-isCount [] = false
-isCount (b ∷ bs) = isFirstDigit b && (leb (length bs) 8 && allDigits bs)
+unfoldable pub is_count : List ℕ → Bool
+is_count [] = false
+is_count (b ∷ bs) = is_first_digit b && (leb (length bs) 8 && all_digits bs)
 
 -- the digit 0 alone
 unfoldable pub is_zero : List ℕ → Bool
@@ -38,19 +38,19 @@ unfoldable pub number : List ℕ → Word
 number [] = bad
 number (b ∷ bs) =
     cond (eqb b 45)
-    (cond (isCount bs) (good (negsuc (spelled 0 bs - 1))) bad)
-    (cond (is_zero (b ∷ bs) || isCount (b ∷ bs)) (good (pos (spelled 0 (b ∷ bs)))) bad)
+    (cond (is_count bs) (good (negsuc (spelled 0 bs - 1))) bad)
+    (cond (is_zero (b ∷ bs) || is_count (b ∷ bs)) (good (pos (spelled 0 (b ∷ bs)))) bad)
 
 -- a meaning as the code gives it: a number, or how far below zero it is
-unfoldable pub meaningIn : Word → Meaning
-meaningIn (good (pos n)) = Plain n
-meaningIn (good (negsuc m)) = Below (suc m)
-meaningIn bad = Bad
+unfoldable pub meaning_in : Word → Meaning
+meaning_in (good (pos n)) = Plain n
+meaning_in (good (negsuc m)) = Below (suc m)
+meaning_in bad = Bad
 
 -- what digits spell after some that spell `so_far`; 0 where one of them is no digit
-unfoldable pub spelledBy : ℕ → List ℕ → ℕ
-spelledBy so_far l = cond (allDigits l) (spelled so_far l) 0
+unfoldable pub spelled_by : ℕ → List ℕ → ℕ
+spelled_by so_far l = cond (all_digits l) (spelled so_far l) 0
 
 -- the number of 1 to 9 digits; 0, which none of them spells, where a list is no such number
 unfoldable pub count_of : List ℕ → ℕ
-count_of l = cond (isCount l) (spelled 0 l) 0
+count_of l = cond (is_count l) (spelled 0 l) 0

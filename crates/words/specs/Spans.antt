@@ -1,6 +1,6 @@
 -- A word's place in a text, and a line's.
 use Rattle.std.specs.Prelude.{Bool, cond, not, List, [], ◌∷◌, ◌≡◌, ℕ, suc, ◌+◌, ◌-◌, ◌≤◌, ◌<◌, eqb, length, take, drop}
-use Rattle.words.specs.Words.{isBlank, words, lines_of}
+use Rattle.words.specs.Words.{is_blank, words, lines_of}
 use Rattle.words.specs.declared.spans.Stop.{Stop}
 use Rattle.words.specs.declared.spans.Stop.TheVariants.{WordByte, Blank, LineFeed}
 
@@ -8,15 +8,15 @@ abbrev pub part : List ℕ → ℕ → ℕ → List ℕ
 part text start end = take (end - start) (drop start text)
 
 -- the bytes at which a search stops
-unfoldable pub stopsAt : Stop → ℕ → Bool
-stopsAt WordByte b = not (isBlank b)
-stopsAt Blank b = isBlank b
-stopsAt LineFeed b = eqb b 10
+unfoldable pub stops_at : Stop → ℕ → Bool
+stops_at WordByte b = not (is_blank b)
+stops_at Blank b = is_blank b
+stops_at LineFeed b = eqb b 10
 
 -- how many bytes stand before the first of them
 unfoldable pub before : Stop → List ℕ → ℕ
 before stop [] = 0
-before stop (b ∷ bs) = cond (stopsAt stop b) 0 (suc (before stop bs))
+before stop (b ∷ bs) = cond (stops_at stop b) 0 (suc (before stop bs))
 
 -- how many blanks stand first, how many other bytes, and how many bytes of a line
 abbrev pub blanks : List ℕ → ℕ
@@ -25,8 +25,8 @@ blanks l = before WordByte l
 abbrev pub run : List ℕ → ℕ
 run l = before Blank l
 
-abbrev pub lineRun : List ℕ → ℕ
-lineRun l = before LineFeed l
+abbrev pub line_run : List ℕ → ℕ
+line_run l = before LineFeed l
 
 -- the first word from a place on, after the blanks: there is one where it has a byte, and the next is looked for from its end on
 pub record NextWord (text : List ℕ) (from start end : ℕ) : Type 0 where
@@ -40,7 +40,7 @@ pub record NextWord (text : List ℕ) (from start end : ℕ) : Type 0 where
 
 -- the line that begins at a place: it ends before a line feed, or at the text's end, and the next begins after that
 pub record NextLine (text : List ℕ) (from end : ℕ) : Type 0 where
-  pub ends : end ≡ from + lineRun (drop from text)
+  pub ends : end ≡ from + line_run (drop from text)
   pub found : from < length text → lines_of (drop from text) ≡ part text from end ∷ lines_of (drop (end + 1) text)
   pub inside : from < length text → end ≤ length text
   pub forward : from ≤ end

@@ -1,8 +1,8 @@
 -- A text as words, the maximal runs of bytes other than space and line feed, and as lines. A byte is its number: 32 a space, 10 a line feed.
 use Rattle.std.specs.Prelude.{Bool, cond, ◌||◌, List, [], ◌∷◌, ℕ, eqb}
 
-unfoldable pub isBlank : ℕ → Bool
-isBlank b = eqb b 32 || eqb b 10
+unfoldable pub is_blank : ℕ → Bool
+is_blank b = eqb b 32 || eqb b 10
 
 -- the text cut at every blank
 unfoldable pub longer : ℕ → List (List ℕ) → List (List ℕ)
@@ -11,7 +11,7 @@ longer b (p ∷ ps) = (b ∷ p) ∷ ps
 
 unfoldable pub pieces : List ℕ → List (List ℕ)
 pieces [] = [] ∷ []
-pieces (b ∷ bs) = cond (isBlank b) ([] ∷ pieces bs) (longer b (pieces bs))
+pieces (b ∷ bs) = cond (is_blank b) ([] ∷ pieces bs) (longer b (pieces bs))
 
 -- the words: the pieces that are not empty
 unfoldable pub kept : List (List ℕ) → List (List ℕ)

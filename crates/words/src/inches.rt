@@ -1,6 +1,6 @@
 // A depth as it is told: in inches with four decimals.
 ghost use Rattle.words.specs.Writing.{Put, Wrote};
-ghost use Rattle.words.specs.Inches.{fourDigits, inches, mostInches};
+ghost use Rattle.words.specs.Inches.{four_digits, inches, most_inches};
 
 use crate::putting::{put_item, put_number};
 
@@ -8,7 +8,7 @@ const UNITS_PER_INCH: u64 = 10000;
 
 // The last four digits of a number, zeros among them.
 fn put_four(buffer: &mut [u8], at: usize, n: u64) -> usize
-    ensures { Put at (fourDigits n) buffer.old buffer.new result }
+    ensures { Put at (four_digits n) buffer.old buffer.new result }
 {
     let a = put_number(buffer, at, n / 1000 % 10);
     let b = put_number(buffer, a, n / 100 % 10);
@@ -17,7 +17,7 @@ fn put_four(buffer: &mut [u8], at: usize, n: u64) -> usize
 }
 
 pub fn put_inches(buffer: &mut [u8], at: usize, units: u64) -> usize
-    ensures { Wrote mostInches at (inches units) buffer.old buffer.new result }
+    ensures { Wrote most_inches at (inches units) buffer.old buffer.new result }
 {
     let point = put_item(buffer, at, units / UNITS_PER_INCH, b'.');
     put_four(buffer, point, units % UNITS_PER_INCH)

@@ -1,5 +1,7 @@
 // Words and whole numbers as bytes, both ways, and depths in inches. A reader asks for the next word, or for a line's end, and for the number that a
 // word means; a writer writes what fits and says where it would end.
+#![tactic(auto)]
+
 mod inches;
 mod numbers;
 mod putting;

@@ -1,8 +1,8 @@
 // The number that a word means, by document 01's form: 0, or 1 to 9 digits without a leading zero, with or without a minus before them.
 ghost use Rattle.std.specs.Prelude.{◌≡◌, ◌+◌, ◌≤◌, length, drop};
-ghost use Rattle.words.specs.Numbers.{isDigit, spelledBy, count_of, number as number_of, meaningIn};
+ghost use Rattle.words.specs.Numbers.{is_digit, spelled_by, count_of, number as number_of, meaning_in};
 
-#[derive(Drop)]
+#[derive(Clone, Copy)]
 pub enum Meaning {
     // A number of zero or more.
     Plain(u32),
@@ -15,7 +15,7 @@ pub enum Meaning {
 const MOST_DIGITS: usize = 9;
 
 pub fn is_digit(b: u8) -> bool
-    ensures { result ≡ isDigit b }
+    ensures { result ≡ is_digit b }
 {
     (b'0' <= b) & (b <= b'9')
 }
@@ -23,7 +23,7 @@ pub fn is_digit(b: u8) -> bool
 // The number that at most nine bytes spell; 0 where one of them is no digit.
 fn spell(word: &[u8], from: usize) -> u32
     requires { length word.now ≤ from + 9 }
-    ensures { result ≡ spelledBy 0 (drop from word.now) }
+    ensures { result ≡ spelled_by 0 (drop from word.now) }
 {
     let mut n: u32 = 0;
     let mut i = from;
@@ -55,7 +55,7 @@ fn count(word: &[u8], from: usize) -> u32
 }
 
 pub fn number(word: &[u8]) -> Meaning
-    ensures { result ≡ meaningIn (number_of word.now) }
+    ensures { result ≡ meaning_in (number_of word.now) }
 {
     if word.len() == 0 {
         return Meaning::Bad;

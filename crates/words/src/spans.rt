@@ -1,17 +1,17 @@
 // The words of a text, one after another, and its lines.
 ghost use Rattle.std.specs.Prelude.{◌≡◌, ◌+◌, drop};
-ghost use Rattle.words.specs.Words.{isBlank};
-ghost use Rattle.words.specs.Spans.{stopsAt, before, NextWord, NextLine};
+ghost use Rattle.words.specs.Words.{is_blank};
+ghost use Rattle.words.specs.Spans.{stops_at, before, NextWord, NextLine};
 
 // A word's bytes: from `start` up to `end`. Where `end` is not past `start`, there is none.
-#[derive(Drop)]
+#[derive(Clone, Copy)]
 pub struct Span {
     pub start: usize,
     pub end: usize,
 }
 
 // The kind of byte that is searched for.
-#[derive(Drop)]
+#[derive(Clone, Copy)]
 enum Stop {
     WordByte,
     Blank,
@@ -19,13 +19,13 @@ enum Stop {
 }
 
 fn is_blank(b: u8) -> bool
-    ensures { result ≡ isBlank b }
+    ensures { result ≡ is_blank b }
 {
     (b == b' ') | (b == b'\n')
 }
 
 fn stops_at(stop: Stop, b: u8) -> bool
-    ensures { result ≡ stopsAt stop b }
+    ensures { result ≡ stops_at stop b }
 {
     match stop {
         Stop::WordByte => !is_blank(b),

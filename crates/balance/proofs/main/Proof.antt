@@ -4,22 +4,22 @@ use Rattle.balance.proofs.main.Statement.{statement}
 use Rattle.balance.proofs.main.Tie as tie
 use mathlib.Core.Path.{sym}
 use lib.Seq.{length-take-le}
-use Rattle.intake.proofs.InputLaws.{read-within}
-use Rattle.text.proofs.PrintedLaws.{text-within}
+use Rattle.intake.proofs.InputLaws.{read_within}
+use Rattle.text.proofs.PrintedLaws.{text_within}
 
 array-share-prefix-input : tie.Need-array-share-prefix-input
-array-share-prefix-input c = let told = c.before.before in read-within _ _ _ told.before.before.before.read-input.ensures told.count.given.1
+array-share-prefix-input c = let told = c.before.before in read_within _ _ _ told.before.before.before.read-input.ensures told.count.given.1
 
 slice-aggregate-balance-text : tie.Need-slice-aggregate-balance-text
 slice-aggregate-balance-text c = let told = c.before.before.before in
-    sym (length-take-le _ _ (read-within _ _ _ told.before.before.before.read-input.ensures told.count.given.1))
+    sym (length-take-le _ _ (read_within _ _ _ told.before.before.before.read-input.ensures told.count.given.1))
 
 array-share-prefix-output : tie.Need-array-share-prefix-output
-array-share-prefix-output c = let told = c.before in text-within _ _ told.before.before.before.balance-text.ensures told.n.given.1
+array-share-prefix-output c = let told = c.before in text_within _ _ told.before.before.before.balance-text.ensures told.n.given.1
 
 slice-aggregate-print : tie.Need-slice-aggregate-print
 slice-aggregate-print c = let told = c.before.before in
-    sym (length-take-le _ _ (text-within _ _ told.before.before.before.balance-text.ensures told.n.given.1))
+    sym (length-take-le _ _ (text_within _ _ told.before.before.before.balance-text.ensures told.n.given.1))
 
 pub main_spec : {M : Type 1} → statement M
 main_spec =

@@ -6,20 +6,20 @@ use Prim.Native.Nat.{ℕ}
 use borrow.Author.Rules.{rules}
 use borrow.Author.Tests.{not-true, not-false}
 use Rattle.theory.proofs.Cases.{and_both, and_first, and_second}
-use Rattle.paper.specs.Setup.{cells_of, gridFits}
-use Rattle.paper.specs.Refusals.{oneEach}
-use Rattle.records.specs.Grids.{gridAs}
-use Rattle.records.specs.Verdicts.{verdictIn}
+use Rattle.paper.specs.Setup.{cells_of, grid_fits}
+use Rattle.paper.specs.Refusals.{one_each}
+use Rattle.records.specs.Grids.{grid_as}
+use Rattle.records.specs.Verdicts.{verdict_in}
 use Rattle.survey.proofs.CallLaws.{each_both}
-use Rattle.admission.proofs.TestLaws.{no-grid, not-each, lent-good}
+use Rattle.admission.proofs.TestLaws.{no_grid, not_each, lent_good}
 use Rattle.admission.proofs.tests.lent_verdict.Statement.{statement}
 use Rattle.admission.proofs.tests.lent_verdict.Tie as tie
 
 returns : tie.Need-returns
-returns c = ap verdictIn (sym (no-grid _ _ (sym c.before.fits2.ensures ∙ not-true _ c.if1.true)))
+returns c = ap verdict_in (sym (no_grid _ _ (sym c.before.fits2.ensures ∙ not-true _ c.if1.true)))
 
 -- the grid fits
-fits : (c : tie.Else1) → gridFits (gridAs c.before.before.args.grid) ≡ true
+fits : (c : tie.Else1) → grid_fits (grid_as c.before.before.args.grid) ≡ true
 fits c = sym c.before.fits2.ensures ∙ not-false _ c.if1.false
 
 abbrev stores : tie.Start → List ℕ
@@ -38,32 +38,32 @@ returns-2 : tie.Need-returns-2
 returns-2 c =
     let counted = c.before.before in
     let s = counted.before.before.before in
-    ap verdictIn (sym (not-each _ _ (fits counted.before)
-    (each_both _ (stores s) _ ∙ and_first _ _ (ap (λ (n : ℕ). oneEach n (stores s)) (sym counted.cells.ensures) ∙ sym c.before.stores-each.ensures ∙ not-true _ c.if2.true))))
+    ap verdict_in (sym (not_each _ _ (fits counted.before)
+    (each_both _ (stores s) _ ∙ and_first _ _ (ap (λ (n : ℕ). one_each n (stores s)) (sym counted.cells.ensures) ∙ sym c.before.stores-each.ensures ∙ not-true _ c.if2.true))))
 
 -- the stores have one entry a cell
-stored : (c : tie.Else2) → oneEach (cells_of (gridAs c.before.before.before.before.before.args.grid)) (stores c.before.before.before.before.before) ≡ true
+stored : (c : tie.Else2) → one_each (cells_of (grid_as c.before.before.before.before.before.args.grid)) (stores c.before.before.before.before.before) ≡ true
 stored c =
     let counted = c.before.before in
-    ap (λ (n : ℕ). oneEach n (stores counted.before.before.before)) (sym counted.cells.ensures) ∙ sym c.before.stores-each.ensures ∙ not-false _ c.if2.false
+    ap (λ (n : ℕ). one_each n (stores counted.before.before.before)) (sym counted.cells.ensures) ∙ sym c.before.stores-each.ensures ∙ not-false _ c.if2.false
 
 returns-3 : tie.Need-returns-3
 returns-3 c =
     let kept = c.before.before in
     let counted = kept.before.before in
     let s = counted.before.before.before in
-    ap verdictIn (sym (not-each _ _ (fits counted.before)
-    (each_both _ (stores s) _ ∙ and_second (oneEach (cells_of (gridAs s.args.grid)) (stores s)) _
-    (ap (λ (n : ℕ). oneEach n (results s)) (sym counted.cells.ensures) ∙ sym c.before.results-each.ensures ∙ not-true _ c.if3.true))))
+    ap verdict_in (sym (not_each _ _ (fits counted.before)
+    (each_both _ (stores s) _ ∙ and_second (one_each (cells_of (grid_as s.args.grid)) (stores s)) _
+    (ap (λ (n : ℕ). one_each n (results s)) (sym counted.cells.ensures) ∙ sym c.before.results-each.ensures ∙ not-true _ c.if3.true))))
 
 returns-4 : tie.Need-returns-4
 returns-4 c =
     let kept = c.before.before in
     let counted = kept.before.before in
     let s = counted.before.before.before in
-    ap verdictIn (sym (lent-good _ _ (fits counted.before)
+    ap verdict_in (sym (lent_good _ _ (fits counted.before)
     (each_both _ (stores s) _ ∙ and_both _ _ (stored kept)
-    (ap (λ (n : ℕ). oneEach n (results s)) (sym counted.cells.ensures) ∙ sym c.before.results-each.ensures ∙ not-false _ c.if3.false))))
+    (ap (λ (n : ℕ). one_each n (results s)) (sym counted.cells.ensures) ∙ sym c.before.results-each.ensures ∙ not-false _ c.if3.false))))
 
 pub lent-verdict-spec : {M : Type 1} → statement M
 lent-verdict-spec =

@@ -2,21 +2,21 @@
 use borrow.Author.Rules.{rules}
 use mathlib.Core.Path.{ap, subst, sym, ◌∙◌}
 use Prim.Native.Nat.{◌<◌}
-use Rattle.paper.specs.Refusals.{Verdict, verdictPlace}
+use Rattle.paper.specs.Refusals.{Verdict, verdict_place}
 use Rattle.paper.specs.Setup.{Setup}
-use Rattle.paper.specs.Day.{checkOf}
-use Rattle.records.specs.Verdicts.{verdictAs}
-use Rattle.records.proofs.VerdictLaws.{verdict-back}
+use Rattle.paper.specs.Day.{check_of}
+use Rattle.records.specs.Verdicts.{verdict_as}
+use Rattle.records.proofs.VerdictLaws.{verdict_back}
 use Rattle.clib.specs.Narrow.{narrow}
 use Rattle.clib.specs.Numbers.{returned}
-use Rattle.clib.proofs.PlaceLaws.{setup-near, near_fits}
-use Rattle.clib.proofs.HandedLaws.{same-setup}
+use Rattle.clib.proofs.PlaceLaws.{setup_near, near_fits}
+use Rattle.clib.proofs.HandedLaws.{same_setup}
 use Rattle.clib.proofs.calls.recharge_check.Statement.{statement}
 use Rattle.clib.proofs.calls.recharge_check.Tie as tie
 
 returned-as-requires : tie.Need-returned-as-requires
-unfolding checkOf
-returned-as-requires c κs = subst (λ (v : Verdict). verdictPlace v < narrow) (sym (ap verdictAs c.check.ensures ∙ verdict-back _)) (near_fits (setup-near _ _))
+unfolding check_of
+returned-as-requires c κs = subst (λ (v : Verdict). verdict_place v < narrow) (sym (ap verdict_as c.check.ensures ∙ verdict_back _)) (near_fits (setup_near _ _))
 
 returns : tie.Need-returns
 returns c =
@@ -24,8 +24,8 @@ returns c =
     let grid = climate.before in
     c.returned-as.ensures
     ∙ ap returned
-    (ap verdictAs c.before.check.ensures ∙ verdict-back _
-    ∙ ap checkOf (same-setup _ _ _ grid.grid-of.ensures climate.climate-of.ensures _ _ _ _ _))
+    (ap verdict_as c.before.check.ensures ∙ verdict_back _
+    ∙ ap check_of (same_setup _ _ _ grid.grid-of.ensures climate.climate-of.ensures _ _ _ _ _))
 
 pub recharge-check-spec : {M : Type 1} → statement M
 recharge-check-spec =

@@ -5,13 +5,13 @@ use borrow.Author.Rules.{rules}
 use Rattle.paper.specs.Setup.{Setup}
 use Rattle.paper.specs.State.{State, Day}
 use Rattle.paper.specs.Day.{Results, Outcome}
-use Rattle.records.specs.Grids.{setupAs}
-use Rattle.records.specs.Past.{pastAs, stateAs}
-use Rattle.records.specs.Days.{dayAs}
-use Rattle.records.specs.Answers.{outcomeAs}
-use Rattle.clib.specs.Given.{setupFrom, dayFrom}
-use Rattle.clib.specs.Handed.{Stores, storesFrom, resultsFrom}
-use Rattle.clib.proofs.HandedLaws.{same-setup, day-placed, day-narrow, day-handed}
+use Rattle.records.specs.Grids.{setup_as}
+use Rattle.records.specs.Past.{past_as, state_as}
+use Rattle.records.specs.Days.{day_as}
+use Rattle.records.specs.Answers.{outcome_as}
+use Rattle.clib.specs.Given.{setup_from, day_from}
+use Rattle.clib.specs.Handed.{Stores, stores_from, results_from}
+use Rattle.clib.proofs.HandedLaws.{same_setup, day_placed, day_narrow, day_handed}
 use Rattle.clib.proofs.calls.recharge_day.Statement.{statement}
 use Rattle.clib.proofs.calls.recharge_day.Tie as tie
 
@@ -56,37 +56,37 @@ start c = (grid c).before.before.before.before.before.before.before.before.befor
 -- what was lent
 abbrev the-setup : tie.Start → Setup
 the-setup c =
-    setupFrom c.args.site c.args.covers.now c.args.direction.now c.args.cover.now c.args.group.now c.args.available.now
+    setup_from c.args.site c.args.covers.now c.args.direction.now c.args.cover.now c.args.group.now c.args.available.now
 
 abbrev the-stores : tie.Start → Stores
-the-stores c = storesFrom c.args.soil.now c.args.snow.now c.args.memory.now c.args.last-serial.now c.args.frost-index.now
+the-stores c = stores_from c.args.soil.now c.args.snow.now c.args.memory.now c.args.last-serial.now c.args.frost-index.now
 
 abbrev the-results : tie.Start → Results
 the-results c =
-    resultsFrom c.args.intercepted.now c.args.outflow.now c.args.evapotranspired.now c.args.recharged.now c.args.rejected.now
+    results_from c.args.intercepted.now c.args.outflow.now c.args.evapotranspired.now c.args.recharged.now c.args.rejected.now
 
 -- what the library was handed, and what it answered
 abbrev handed-setup : tie.After-day → Setup
 handed-setup c =
-    setupAs (grid c).grid-of.result (climate c).climate-of.result (start c).args.covers.now (start c).args.direction.now
+    setup_as (grid c).grid-of.result (climate c).climate-of.result (start c).args.covers.now (start c).args.direction.now
     (start c).args.cover.now (start c).args.group.now (start c).args.available.now
 
 abbrev handed-state : tie.After-day → State
-handed-state c = stateAs (start c).args.soil.now (start c).args.snow.now (past c).past-from.result
+handed-state c = state_as (start c).args.soil.now (start c).args.snow.now (past c).past-from.result
 
 abbrev handed-day : tie.After-day → Day
-handed-day c = dayAs c.before.record_of.result
+handed-day c = day_as c.before.record_of.result
 
 abbrev answered : tie.After-day → Outcome
 answered c =
-    outcomeAs c.day.result c.day.new.1.1.1.1.1.1.1.0 c.day.new.1.1.1.1.1.1.1.1.0
-    (resultsFrom c.day.new.1.1.1.1.1.1.1.1.1.0 c.day.new.1.1.1.1.1.1.1.1.1.1.0 c.day.new.1.1.1.1.1.1.1.1.1.1.1.0
+    outcome_as c.day.result c.day.new.1.1.1.1.1.1.1.0 c.day.new.1.1.1.1.1.1.1.1.0
+    (results_from c.day.new.1.1.1.1.1.1.1.1.1.0 c.day.new.1.1.1.1.1.1.1.1.1.1.0 c.day.new.1.1.1.1.1.1.1.1.1.1.1.0
     c.day.new.1.1.1.1.1.1.1.1.1.1.1.1.0 c.day.new.1.1.1.1.1.1.1.1.1.1.1.1.1.0)
 
 memory-kept-requires : tie.Need-memory-kept-requires
 memory-kept-requires c κs =
     let at = called c in
-    day-narrow (handed-setup at) (handed-state at) (the-results (start at)) (handed-day at) {o = answered at} at.day.ensures
+    day_narrow (handed-setup at) (handed-state at) (the-results (start at)) (handed-day at) {o = answered at} at.day.ensures
     (past at).past-from.ensures.1 at.before.record_of.ensures.1
 
 index-kept-requires : tie.Need-index-kept-requires
@@ -95,7 +95,7 @@ index-kept-requires c κs = memory-kept-requires c.before.before κs
 returned-as-requires : tie.Need-returned-as-requires
 returned-as-requires c κs =
     let at = called c.before.before.before.before in
-    day-placed (handed-setup at) (handed-state at) (the-results (start at)) (handed-day at) {o = answered at} at.day.ensures
+    day_placed (handed-setup at) (handed-state at) (the-results (start at)) (handed-day at) {o = answered at} at.day.ensures
 
 abbrev kept : tie.After-returned-as → tie.After-kept
 kept c = c.before.before.before.before.before
@@ -103,9 +103,9 @@ kept c = c.before.before.before.before.before
 returns : tie.Need-returns
 returns c =
     let at = called (kept c) in
-    day-handed (the-setup (start at)) (the-stores (start at)) (the-results (start at)) (dayFrom (start at).args.day)
-    {t = handed-setup at} {p = pastAs (past at).past-from.result} {z = handed-day at} {o = answered at} at.day.ensures
-    (same-setup _ _ _ (grid at).grid-of.ensures (climate at).climate-of.ensures _ _ _ _ _)
+    day_handed (the-setup (start at)) (the-stores (start at)) (the-results (start at)) (day_from (start at).args.day)
+    {t = handed-setup at} {p = past_as (past at).past-from.result} {z = handed-day at} {o = answered at} at.day.ensures
+    (same_setup _ _ _ (grid at).grid-of.ensures (climate at).climate-of.ensures _ _ _ _ _)
     at.before.record_of.ensures.0 (past at).past-from.ensures.0 c.returned-as.ensures
     c.before.before.before.before.memory_kept.ensures c.before.before.before.serial-kept.ensures
     c.before.before.index_kept.ensures c.before.figures-of.ensures

@@ -1,6 +1,6 @@
 -- `calls::recharge_fresh` meets its contract: the library's answer is the paper's, whose past is that of a fresh state, and it is written as C's numbers.
 use borrow.Author.Rules.{rules}
-use Rattle.clib.proofs.HandedLaws.{same-setup, fresh-near, fresh-narrow, fresh-handed}
+use Rattle.clib.proofs.HandedLaws.{same_setup, fresh_near, fresh_narrow, fresh_handed}
 use Rattle.clib.proofs.calls.recharge_fresh.Statement.{statement}
 use Rattle.clib.proofs.calls.recharge_fresh.Tie as tie
 
@@ -18,20 +18,20 @@ abbrev past : tie.After-returned-as → tie.After-past
 past c = c.before.before.before.before
 
 memory-kept-requires : tie.Need-memory-kept-requires
-memory-kept-requires c κs = fresh-narrow _ _ _ (called c).fresh.ensures
+memory-kept-requires c κs = fresh_narrow _ _ _ (called c).fresh.ensures
 
 index-kept-requires : tie.Need-index-kept-requires
-index-kept-requires c κs = fresh-narrow _ _ _ (called c.before.before).fresh.ensures
+index-kept-requires c κs = fresh_narrow _ _ _ (called c.before.before).fresh.ensures
 
 returned-as-requires : tie.Need-returned-as-requires
-returned-as-requires c κs = fresh-near _ _ _ (called c.before.before.before).fresh.ensures
+returned-as-requires c κs = fresh_near _ _ _ (called c.before.before.before).fresh.ensures
 
 returns : tie.Need-returns
 returns c =
     let at = called (past c) in
     let climate = at.before.before.before in
     let grid = climate.before in
-    fresh-handed _ _ _ at.fresh.ensures (same-setup _ _ _ grid.grid-of.ensures climate.climate-of.ensures _ _ _ _ _)
+    fresh_handed _ _ _ at.fresh.ensures (same_setup _ _ _ grid.grid-of.ensures climate.climate-of.ensures _ _ _ _ _)
     c.returned-as.ensures c.before.before.before.memory_kept.ensures c.before.before.serial-kept.ensures c.before.index_kept.ensures
 
 pub recharge-fresh-spec : {M : Type 1} → statement M

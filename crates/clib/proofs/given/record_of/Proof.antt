@@ -12,7 +12,7 @@ returns c =
     let day = gross.before.args.day in (
       λ k. record {
         serial = day.serial;
-        dayOfYear = day.day_of_year;
+        day_of_year = day.day_of_year;
         gross = gross.depth.ensures.0 k;
         minimum = to_z-of_z {w = w32} {z = day.minimum} (record { sfits = told.struct-told3.given.1.1.1.0.1 }) k;
         mean = to_z-of_z {w = w32} {z = day.mean} (record { sfits = told.struct-told3.given.1.1.1.1.0.1 }) k;

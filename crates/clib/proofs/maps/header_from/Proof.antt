@@ -2,18 +2,18 @@
 use mathlib.Core.Path.{refl}
 use borrow.Author.Rules.{rules}
 use Rattle.grids.proofs.WholeLaws.{whole}
-use Rattle.clib.specs.Grids.{headerFrom}
+use Rattle.clib.specs.Grids.{header_from}
 use Rattle.clib.proofs.maps.header_from.Statement.{statement}
 use Rattle.clib.proofs.maps.header_from.Tie as tie
 
 returns : tie.Need-returns
-unfolding headerFrom
+unfolding header_from
 returns c =
     rw (
       c.before.before.before.before.before.before.before.index_of.ensures,
       c.before.before.before.before.before.index-of2.ensures,
       c.before.before.before.index-of3.ensures,
-      whole _ c.before.before.before.before.before.before.before.before.before.before.before.ranges.no-data,
+      whole _ c.before.before.before.before.before.before.before.before.before.before.before.ranges.no_data_lem,
     )
     refl
 

@@ -2,7 +2,7 @@
 use mathlib.Core.Path.{refl}
 use borrow.Author.Rules.{rules}
 use Rattle.grids.proofs.WholeLaws.{whole}
-use Rattle.clib.proofs.GridLaws.{grid-written}
+use Rattle.clib.proofs.GridLaws.{grid_written}
 use Rattle.clib.proofs.maps.recharge_grid_write.Statement.{statement}
 use Rattle.clib.proofs.maps.recharge_grid_write.Tie as tie
 
@@ -10,7 +10,7 @@ returns : tie.Need-returns
 returns c =
     let header = c.before.before.before.before.before in
     let start = header.before.before in
-    rw (← whole _ start.ranges.no-data, ← header.header-from.ensures) (grid-written _ _ _ _ _ _ _ c.before.before.before.write-grid.ensures refl c.grid-returned.ensures)
+    rw (← whole _ start.ranges.no_data_lem, ← header.header-from.ensures) (grid_written _ _ _ _ _ _ _ c.before.before.before.write-grid.ensures refl c.grid-returned.ensures)
 
 pub recharge-grid-write-spec : {M : Type 1} → statement M
 recharge-grid-write-spec =

@@ -5,12 +5,12 @@ use mathlib.Core.Path.{ap, ◌∙◌}
 use Prim.Native.Nat.{◌<◌}
 use native.Mathlib.Omega.{arith}
 use Rattle.paper.specs.State.{Past}
-use Rattle.clib.specs.Handed.{stateFrom}
+use Rattle.clib.specs.Handed.{state_from}
 use Rattle.clib.specs.Narrow.{narrow}
 use Rattle.clib.specs.Numbers.{returned}
-use Rattle.clib.specs.Whys.{explained, reasonGiven}
-use Rattle.clib.proofs.HandedLaws.{same-setup}
-use Rattle.clib.proofs.WhyLaws.{why-near, why-handed}
+use Rattle.clib.specs.Whys.{explained, reason_given}
+use Rattle.clib.proofs.HandedLaws.{same_setup}
+use Rattle.clib.proofs.WhyLaws.{why_near, why_handed}
 use Rattle.clib.proofs.whys.recharge_why.Statement.{statement}
 use Rattle.clib.proofs.whys.recharge_why.Tie as tie
 
@@ -19,10 +19,10 @@ returned-as-requires c κs =
     let why = c.before.before in
     let s = why.before.before.before.before.before.before.before.before.before.before.before.before.before in
     let small : s.args.cell < narrow = omega (arith, s.ranges.cell) in
-    rw (c.verdict.ensures, why.why.ensures) (why-near _ _ _ _ (rw why.before.index_of.ensures small))
+    rw (c.verdict.ensures, why.why.ensures) (why_near _ _ _ _ (rw why.before.index_of.ensures small))
 
 returns : tie.Need-returns
-unfolding stateFrom reasonGiven
+unfolding state_from reason_given
 returns c =
     let why = c.before.before.before in
     let past = why.before.before.before in
@@ -31,7 +31,7 @@ returns c =
     let s = why.before.before.before.before.before.before.before.before.before.before.before.before.before in
     let number = c.returned-as.ensures ∙ ap returned c.before.verdict.ensures in
     (λ k. explained (number k) (c.before.before.told.ensures k))
-    ∙ why-handed _ _ _ _ _ _ _ _ (same-setup _ _ _ grid.grid-of.ensures climate.climate-of.ensures _ _ _ _ _)
+    ∙ why_handed _ _ _ _ _ _ _ _ (same_setup _ _ _ grid.grid-of.ensures climate.climate-of.ensures _ _ _ _ _)
     (ap (λ (p : Past). record { soil = s.args.soil.now; snow = s.args.snow.now; past = p }) past.past-from.ensures.0)
     why.before.before.record_of.ensures.0 why.before.index_of.ensures _ why.why.ensures
 

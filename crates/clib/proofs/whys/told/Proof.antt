@@ -1,11 +1,11 @@
 -- `whys::told` meets its contract: an explanation says its own number and depths.
 use borrow.Author.Rules.{rules}
-use Rattle.clib.specs.Whys.{reasonList}
+use Rattle.clib.specs.Whys.{reason_list}
 use Rattle.clib.proofs.whys.told.Statement.{statement}
 use Rattle.clib.proofs.whys.told.Tie as tie
 
 returns : tie.Need-returns
-unfolding reasonList
+unfolding reason_list
 returns c = cc
 
 pub told-spec : {M : Type 1} → statement M

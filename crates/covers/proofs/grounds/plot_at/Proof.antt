@@ -1,17 +1,17 @@
 -- `grounds::plot_at` meets its contract: each number is read at its place in the slot.
 use mathlib.Core.Path.{◌≡◌, ap, ◌∙◌}
 use Prim.Native.Nat.{ℕ, ◌*◌}
-use Rattle.covers.specs.Plots.{plotAt, plotBy}
+use Rattle.covers.specs.Plots.{plot_at, plot_by}
 use borrow.Author.Rules.{rules}
 use Rattle.covers.proofs.grounds.plot_at.Statement.{statement}
 use Rattle.covers.proofs.grounds.plot_at.Tie as tie
 
 -- a number of the slot as an index is one of the slot
-of-slot : (c : tie.After-small-index) (k : ℕ) → plotAt c.before.args.plots.now c.small-index.result k ≡ plotAt c.before.args.plots.now c.before.args.slot k
-of-slot c k = ap (λ (s : ℕ). plotAt c.before.args.plots.now s k) c.small-index.ensures.0
+of-slot : (c : tie.After-small-index) (k : ℕ) → plot_at c.before.args.plots.now c.small-index.result k ≡ plot_at c.before.args.plots.now c.before.args.slot k
+of-slot c k = ap (λ (s : ℕ). plot_at c.before.args.plots.now s k) c.small-index.ensures.0
 
 returns : tie.Need-returns
-unfolding plotBy
+unfolding plot_by
 returns c =
     let found = c.before.before.before.before.before.before.before.before.before.before.before in
     λ k. record {

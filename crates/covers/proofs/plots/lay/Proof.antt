@@ -4,11 +4,11 @@ use mathlib.Core.Logic.{⊎_elim}
 use Prim.Native.Nat.{◌+◌, ◌*◌, ◌/◌, ◌-◌, ◌≤◌, min}
 use native.Mathlib.Omega.{arith}
 use lib.ListN.{length, length-set}
-use Rattle.theory.specs.Lists.{madeOver}
-use Rattle.theory.proofs.ListLaws.{over_none, over-length}
+use Rattle.theory.specs.Lists.{made_over}
+use Rattle.theory.proofs.ListLaws.{over_none, over_length}
 use Rattle.paper.specs.Covers.{entries}
-use Rattle.weather.specs.Today.{todayAs}
-use Rattle.covers.specs.Plots.{plotNumber}
+use Rattle.weather.specs.Today.{today_as}
+use Rattle.covers.specs.Plots.{plot_number}
 use Rattle.covers.proofs.PlotLaws.{laid}
 use borrow.Author.Rules.{rules}
 use Rattle.covers.proofs.plots.lay.Statement.{statement}
@@ -18,7 +18,7 @@ abbrev invariant-loop : tie.invariant-loop
 invariant-loop today covers plots₀ slots slot₀ plots slot =
     (slots ≡ min (length plots₀ / 6) (4 * entries covers))
     × (slot ≤ slots)
-    × (plots ≡ madeOver (6 * slot) (plotNumber (todayAs today) covers) plots₀)
+    × (plots ≡ made_over (6 * slot) (plot_number (today_as today) covers) plots₀)
 
 abbrev decreases-loop : tie.decreases-loop
 decreases-loop today covers plots₀ slots slot₀ plots slot = slots - slot
@@ -26,7 +26,7 @@ decreases-loop today covers plots₀ slots slot₀ plots slot = slots - slot
 -- what is laid keeps the length
 same : (c : tie.At-loop invariant-loop decreases-loop) → length c.loop.plots ≡ length c.before.before.before.before.args.plots.now
 same c = let a = c.before.before.before.before.args in
-    ap length c.loop.invariant.2 ∙ over-length (6 * c.loop.slot) (plotNumber (todayAs a.today) a.covers.now) a.plots.now (omega arith)
+    ap length c.loop.invariant.2 ∙ over_length (6 * c.loop.slot) (plot_number (today_as a.today) a.covers.now) a.plots.now (omega arith)
 
 -- room for the slot's six numbers
 room : (c : tie.In-loop invariant-loop decreases-loop) → 6 * c.before.loop.slot + 6 ≤ length c.before.loop.plots
@@ -57,7 +57,7 @@ slice-write-plots-6 c = simp length-set (omega (arith, room c.before))
 loop-again : tie.Need-loop-preserved invariant-loop decreases-loop
 loop-again c =
     let inv = c.before.before.loop.invariant in
-    (inv.0, search rules, laid (todayAs c.before.before.before.before.before.before.args.today) _ _ _ _ _ _ _ _ _ _ c.slot-day.ensures (omega arith) inv.2)
+    (inv.0, search rules, laid (today_as c.before.before.before.before.before.before.args.today) _ _ _ _ _ _ _ _ _ _ c.slot-day.ensures (omega arith) inv.2)
 
 same_length : tie.Need-same-length invariant-loop decreases-loop
 same_length c = same c.before

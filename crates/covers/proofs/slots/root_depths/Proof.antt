@@ -5,10 +5,10 @@ use Prim.Native.Nat.{◌+◌, ◌*◌, ◌%◌, ◌-◌, ◌≤◌, min}
 use native.Mathlib.Omega.{arith}
 use lib.ListN.{length, replicate}
 use borrow.Author.Rules.{rules}
-use Rattle.theory.specs.Lists.{madeOver}
+use Rattle.theory.specs.Lists.{made_over}
 use Rattle.theory.proofs.ListLaws.{over_none}
-use Rattle.covers.specs.Slots.{groupNumberAt}
-use Rattle.covers.proofs.SlotLaws.{roots-four, roots-whole}
+use Rattle.covers.specs.Slots.{group_number_at}
+use Rattle.covers.proofs.SlotLaws.{roots_four, roots_whole}
 use Rattle.covers.proofs.slots.root_depths.Statement.{statement}
 use Rattle.covers.proofs.slots.root_depths.Tie as tie
 
@@ -19,7 +19,7 @@ invariant-loop covers roots₀ slots slot₀ roots slot =
     × (min (length covers) 1024 ≤ 4 * slots)
     × (slot ≤ slots)
     × (slot % 4 ≡ 0)
-    × (roots ≡ madeOver slot (groupNumberAt covers 11) (replicate 256 0))
+    × (roots ≡ made_over slot (group_number_at covers 11) (replicate 256 0))
 
 abbrev decreases-loop : tie.decreases-loop
 decreases-loop covers roots₀ slots slot₀ roots slot = slots - slot
@@ -48,7 +48,7 @@ loop-again c =
       l.invariant.2,
       room c,
       search rules,
-      roots-four _ _ _ lake.ensures l.invariant.4 (omega (arith, room c, l.invariant.0)) _ _ _ _ _ l.invariant.5 c.before.before.before.soil-number.ensures
+      roots_four _ _ _ lake.ensures l.invariant.4 (omega (arith, room c, l.invariant.0)) _ _ _ _ _ l.invariant.5 c.before.before.before.soil-number.ensures
           c.before.before.soil-number2.ensures c.before.soil-number3.ensures c.soil-number4.ensures,
     )
 
@@ -56,7 +56,7 @@ returns : tie.Need-returns invariant-loop decreases-loop
 returns c =
     let l = c.before.loop in
     let all : l.slot ≡ c.before.before.if1.slots = omega arith in
-    l.invariant.5 ∙ rw all (roots-whole _ _ l.invariant.0 l.invariant.1 l.invariant.2)
+    l.invariant.5 ∙ rw all (roots_whole _ _ l.invariant.0 l.invariant.1 l.invariant.2)
 
 pub root-depths-spec : {M : Type 1} → statement M
 root-depths-spec =

@@ -6,13 +6,13 @@ use native.Mathlib.Nat.{not-suc-le-zero}
 use borrow.Author.Count.{below_more}
 use borrow.Author.Rules.{rules}
 use lib.ListN.{length}
-use Rattle.paper.specs.Covers.{entries, entryFits}
-use Rattle.records.proofs.PlaceLaws.{PassedTo, found-place, no_place}
+use Rattle.paper.specs.Covers.{entries, entry_fits}
+use Rattle.records.proofs.PlaceLaws.{PassedTo, found_place, no_place}
 use Rattle.covers.proofs.table.bad_entry.Statement.{statement}
 use Rattle.covers.proofs.table.bad_entry.Tie as tie
 
 abbrev invariant-loop : tie.invariant-loop
-invariant-loop covers count e₀ e = (count ≡ length covers / 16) × (e ≤ count) × PassedTo (λ k. not (entryFits covers k)) e
+invariant-loop covers count e₀ e = (count ≡ length covers / 16) × (e ≤ count) × PassedTo (λ k. not (entry_fits covers k)) e
 
 abbrev decreases-loop : tie.decreases-loop
 decreases-loop covers count e₀ e = count - e
@@ -26,7 +26,7 @@ entry-fits-requires c κs = search rules
 returns : tie.Need-returns invariant-loop decreases-loop
 unfolding entries
 returns c =
-    found-place _ _ _ c.before.before.before.loop.invariant.2 c.before.before.loop-test.true
+    found_place _ _ _ c.before.before.before.loop.invariant.2 c.before.before.loop-test.true
     (ap not (sym c.before.entry-fits.ensures) ∙ c.if1.true)
 
 add-e : tie.Need-overflow-add-e invariant-loop decreases-loop

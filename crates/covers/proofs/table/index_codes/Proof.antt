@@ -6,19 +6,19 @@ use native.Mathlib.Omega.{arith}
 use borrow.Author.Rules.{rules}
 use lib.ListN.{length}
 use Rattle.paper.specs.Covers.{entries, code_of}
-use Rattle.covers.specs.Table.{indexOf}
-use Rattle.covers.proofs.TableLaws.{index-none, index-more, code-limit, count-limit}
+use Rattle.covers.specs.Table.{index_of}
+use Rattle.covers.proofs.TableLaws.{index_none, index_more, code_limit, count_limit}
 use Rattle.covers.proofs.table.index_codes.Statement.{statement}
 use Rattle.covers.proofs.table.index_codes.Tie as tie
 
 abbrev invariant-loop : tie.invariant-loop
-invariant-loop covers index₀ count e₀ index e = (count ≡ length covers / 16) × (e ≤ count) × (index ≡ indexOf covers e)
+invariant-loop covers index₀ count e₀ index e = (count ≡ length covers / 16) × (e ≤ count) × (index ≡ index_of covers e)
 
 abbrev decreases-loop : tie.decreases-loop
 decreases-loop covers index₀ count e₀ index e = count - e
 
 loop-holds : tie.Need-loop-init invariant-loop decreases-loop
-loop-holds c = (search rules, search rules, index-none _ c.before.requires.0 _ c.before.requires.1)
+loop-holds c = (search rules, search rules, index_none _ c.before.requires.0 _ c.before.requires.1)
 
 mul-index-of : tie.Need-overflow-mul-index-of invariant-loop decreases-loop
 mul-index-of c = search rules
@@ -37,12 +37,12 @@ add-index c = search rules
 
 cast-index : tie.Need-overflow-cast-index invariant-loop decreases-loop
 unfolding entries
-cast-index c = omega (arith, count-limit _ c.before.before.before.before.before.requires.0)
+cast-index c = omega (arith, count_limit _ c.before.before.before.before.before.requires.0)
 
 -- the code that is read is below 256
 code-small : (c : tie.After-index-of invariant-loop decreases-loop) → code_of c.before.before.before.before.before.args.covers.now c.before.before.before.loop.e < 256
 unfolding entries
-code-small c = code-limit _ c.before.before.before.before.before.requires.0 _ c.before.before.loop-test.true
+code-small c = code_limit _ c.before.before.before.before.before.requires.0 _ c.before.before.loop-test.true
 
 element-write-index : tie.Need-element-write-index invariant-loop decreases-loop
 element-write-index c = rw c.index_of.ensures (code-small c)
@@ -59,14 +59,14 @@ loop-again c = (
   search rules,
   search rules,
   rw (c.index_of.ensures, add-one c.before.before.before.loop.e, c.before.before.before.loop.invariant.2)
-      (index-more _ c.before.before.before.before.before.requires.0 _ c.before.before.loop-test.true),
+      (index_more _ c.before.before.before.before.before.requires.0 _ c.before.before.loop-test.true),
 )
 
 returns : tie.Need-returns invariant-loop decreases-loop
 unfolding entries
 returns c =
     let e : c.before.loop.e ≡ length c.before.before.before.args.covers.now / 16 = omega arith in
-    c.before.loop.invariant.2 ∙ ap (indexOf c.before.before.before.args.covers.now) e
+    c.before.loop.invariant.2 ∙ ap (index_of c.before.before.before.args.covers.now) e
 
 pub index-codes-spec : {M : Type 1} → statement M
 index-codes-spec =

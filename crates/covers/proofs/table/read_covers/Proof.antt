@@ -4,22 +4,22 @@ use mathlib.Core.Bool.{true, not}
 use borrow.Author.Rules.{rules}
 use borrow.Author.Tests.{not-true, not-false}
 use Rattle.theory.specs.Lowest.{nowhere, lowest}
-use Rattle.paper.specs.Covers.{sizeFits, entries, entryFits}
-use Rattle.paper.specs.Refusals.{coverTable}
-use Rattle.records.proofs.PlaceLaws.{found_at, found-no}
-use Rattle.covers.proofs.TableLaws.{size-bad, entry-bad, entries_fit, table_fits, refused-table, read_table}
+use Rattle.paper.specs.Covers.{size_fits, entries, entry_fits}
+use Rattle.paper.specs.Refusals.{cover_table}
+use Rattle.records.proofs.PlaceLaws.{found_at, found_no}
+use Rattle.covers.proofs.TableLaws.{size_bad, entry_bad, entries_fit, table_fits, refused_table, read_table}
 use Rattle.covers.proofs.table.read_covers.Statement.{statement}
 use Rattle.covers.proofs.table.read_covers.Tie as tie
 
 returns : tie.Need-returns
-returns c = refused-table _ _ (coverTable 0) (size-bad _ (sym c.before.size-fits.ensures ∙ not-true _ c.if1.true))
+returns c = refused_table _ _ (cover_table 0) (size_bad _ (sym c.before.size-fits.ensures ∙ not-true _ c.if1.true))
 
 returns-2 : tie.Need-returns-2
 returns-2 c =
     let search-done = c.before.before.before in
     let sized = search-done.before in
-    refused-table _ _ (coverTable _)
-    (entry-bad _ (sym sized.before.size-fits.ensures ∙ not-false _ sized.if1.false) _
+    refused_table _ _ (cover_table _)
+    (entry_bad _ (sym sized.before.size-fits.ensures ∙ not-false _ sized.if1.false) _
     (found_at _ _ (sym c.before.entry.given.1 ∙ search-done.bad-entry.ensures)))
 
 -- the size fits, and no entry has a fault
@@ -30,11 +30,11 @@ module _ (c : tie.After-index) where
   abbrev start : tie.Start
   start = search-done.before.before.before.before
 
-  size : sizeFits start.args.covers.now ≡ true
+  size : size_fits start.args.covers.now ≡ true
   size = sym search-done.before.before.size-fits.ensures ∙ not-false _ search-done.before.if1.left
 
-  none : lowest (entries start.args.covers.now) (λ e. not (entryFits start.args.covers.now e)) ≡ nowhere
-  none = found-no _ (sym c.before.enum_told.given.1 ∙ search-done.bad-entry.ensures)
+  none : lowest (entries start.args.covers.now) (λ e. not (entry_fits start.args.covers.now e)) ≡ nowhere
+  none = found_no _ (sym c.before.enum_told.given.1 ∙ search-done.bad-entry.ensures)
 
 index-codes-requires : tie.Need-index-codes-requires
 index-codes-requires c κs = (entries_fit _ (size c.before) (none c.before), refl)

@@ -1,8 +1,8 @@
 -- `period::recharge_period` meets its contract: the library is handed what C lent, and its answer is told as C's numbers.
 use borrow.Author.Rules.{rules}
 use mathlib.Core.Path.{refl}
-use Rattle.clib.proofs.HandedLaws.{same-setup}
-use Rattle.cperiod.proofs.PeriodLaws.{period-near, period-handed}
+use Rattle.clib.proofs.HandedLaws.{same_setup}
+use Rattle.cperiod.proofs.PeriodLaws.{period_near, period_handed}
 use Rattle.cperiod.proofs.period.recharge_period.Statement.{statement}
 use Rattle.cperiod.proofs.period.recharge_period.Tie as tie
 
@@ -11,7 +11,7 @@ abbrev called : tie.After-slice-known8 → tie.After-period
 called c = c.before.before.before.before.before.before.before.before
 
 returned-as-requires : tie.Need-returned-as-requires
-returned-as-requires c κs = period-near _ _ _ _ _ _ _ _ _ _ _ (called c).period.ensures
+returned-as-requires c κs = period_near _ _ _ _ _ _ _ _ _ _ _ (called c).period.ensures
 
 returns : tie.Need-returns
 returns c =
@@ -21,7 +21,7 @@ returns c =
     record {
       ended = at.period.result;
       is =
-          period-handed _ _ (same-setup _ _ _ grid.grid-of.ensures climate.climate-of.ensures _ _ _ _ _) _ _ _ _ _ _ _ _ _ _
+          period_handed _ _ (same_setup _ _ _ grid.grid-of.ensures climate.climate-of.ensures _ _ _ _ _) _ _ _ _ _ _ _ _ _ _
           at.period.ensures;
       number = c.returned-as.ensures;
       counted = refl;

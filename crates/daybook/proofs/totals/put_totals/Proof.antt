@@ -5,9 +5,9 @@ use lib.Dec.{lit≤}
 use lib.ListN.{length-set}
 use borrow.Author.Rules.{rules}
 use borrow.Author.Tests.{lt-ltb, le-ltb}
-use Rattle.theory.proofs.Cases.{cond-false}
-use Rattle.records.specs.Answers.{totalsAs}
-use Rattle.daybook.proofs.TotalsLaws.{within, seven-written}
+use Rattle.theory.proofs.Cases.{cond_false}
+use Rattle.records.specs.Answers.{totals_as}
+use Rattle.daybook.proofs.TotalsLaws.{within, seven_written}
 use Rattle.daybook.proofs.totals.put_totals.Statement.{statement}
 use Rattle.daybook.proofs.totals.put_totals.Tie as tie
 
@@ -30,10 +30,10 @@ slice-write-list-7 : tie.Need-slice-write-list-7
 slice-write-list-7 c = rw (length-set, length-set, length-set, length-set, length-set, length-set) (within _ _ _ c.if1.true (lit≤ tt))
 
 returns : tie.Need-returns
-returns c = seven-written c.before.args.list.now _ (lt-ltb _ _ c.if1.true) (7 * c.before.args.k) (totalsAs c.before.args.totals)
+returns c = seven_written c.before.args.list.now _ (lt-ltb _ _ c.if1.true) (7 * c.before.args.k) (totals_as c.before.args.totals)
 
 returns-2 : tie.Need-returns-2
-returns-2 c = sym (cond-false _ (le-ltb _ _ c.if1.false) _ _)
+returns-2 c = sym (cond_false _ (le-ltb _ _ c.if1.false) _ _)
 
 pub put-totals-spec : {M : Type 1} → statement M
 put-totals-spec =

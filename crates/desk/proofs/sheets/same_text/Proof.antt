@@ -4,15 +4,15 @@ use Prim.Native.Nat.{◌-◌, ◌≤◌}
 use native.Mathlib.Omega.{arith}
 use borrow.Author.Rules.{rules}
 use Rattle.grids.specs.Headers.{same}
-use Rattle.grids.specs.Given.{textAs}
-use Rattle.grids.specs.Measures.{mostCharacters}
+use Rattle.grids.specs.Given.{text_as}
+use Rattle.grids.specs.Measures.{most_characters}
 use Rattle.grids.proofs.NameLaws.{other_length}
-use Rattle.desk.proofs.SheetLaws.{left, left-all, same_next, same_stop, same_end}
+use Rattle.desk.proofs.SheetLaws.{left, left_all, same_next, same_stop, same_end}
 use Rattle.desk.proofs.sheets.same_text.Statement.{statement}
 use Rattle.desk.proofs.sheets.same_text.Tie as tie
 
 abbrev invariant-loop : tie.invariant-loop
-invariant-loop count bytes others i₀ i = (count ≤ mostCharacters) × (left count bytes others 0 ≡ left count bytes others i)
+invariant-loop count bytes others i₀ i = (count ≤ most_characters) × (left count bytes others 0 ≡ left count bytes others i)
 
 abbrev decreases-loop : tie.decreases-loop
 decreases-loop count bytes others i₀ i = count - i
@@ -24,10 +24,10 @@ lengths c = c.before.before.before.before
 whole : (c : tie.At-loop invariant-loop decreases-loop) →
     let at = (lengths c).before in
     let lent = at.before.args in
-    left at.text-length.result lent.text.bytes lent.other.bytes 0 ≡ same (textAs lent.text) (textAs lent.other)
+    left at.text-length.result lent.text.bytes lent.other.bytes 0 ≡ same (text_as lent.text) (text_as lent.other)
 whole c =
     let at = lengths c in
-    left-all _ _ _ at.before.text-length.ensures.0 (sym c.before.before.before.if1.false ∙ at.text-length2.ensures.0)
+    left_all _ _ _ at.before.text-length.ensures.0 (sym c.before.before.before.if1.false ∙ at.text-length2.ensures.0)
 
 returns : tie.Need-returns invariant-loop decreases-loop
 returns c = let at = c.before in sym (other_length _ _ (λ e. c.if1.true (at.text-length2.ensures.0 ∙ sym e ∙ sym at.before.text-length.ensures.0)))

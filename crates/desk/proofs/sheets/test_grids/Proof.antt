@@ -1,12 +1,12 @@
 -- `sheets::test_grids` meets its contract: its seven tests, one after another.
 use borrow.Author.Rules.{rules}
-use Rattle.desk.specs.Sheets.{testGrids}
+use Rattle.desk.specs.Sheets.{test_grids}
 use Rattle.desk.proofs.FaultLaws.{then_by}
 use Rattle.desk.proofs.sheets.test_grids.Statement.{statement}
 use Rattle.desk.proofs.sheets.test_grids.Tie as tie
 
 returns : tie.Need-returns
-unfolding testGrids
+unfolding test_grids
 returns c =
     let match2 = c.before.before in
     let match1 = match2.before.before in

@@ -1,11 +1,11 @@
 -- `sheets::test_match` meets its contract: the first of the three tests that fails.
 use borrow.Author.Rules.{rules}
-use Rattle.desk.specs.Sheets.{testMatch}
+use Rattle.desk.specs.Sheets.{test_match}
 use Rattle.desk.proofs.sheets.test_match.Statement.{statement}
 use Rattle.desk.proofs.sheets.test_match.Tie as tie
 
 returns : tie.Need-returns
-unfolding testMatch
+unfolding test_match
 returns c = cc
 
 pub test-match-spec : {M : Type 1} → statement M

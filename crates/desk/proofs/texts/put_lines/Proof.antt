@@ -3,14 +3,14 @@ use Prim.Native.Nat.{◌-◌, ◌≤◌}
 use native.Mathlib.Omega.{arith}
 use borrow.Author.Rules.{rules}
 use Rattle.words.specs.Writing.{Put}
-use Rattle.words.proofs.WritingLaws.{put-length}
-use Rattle.desk.specs.Texts.{cellsBy, cellLines}
-use Rattle.desk.proofs.TextLaws.{lines_none, lines_more, lines-all, signed}
+use Rattle.words.proofs.WritingLaws.{put_length}
+use Rattle.desk.specs.Texts.{cells_by, cell_lines}
+use Rattle.desk.proofs.TextLaws.{lines_none, lines_more, lines_all, signed}
 use Rattle.desk.proofs.texts.put_lines.Statement.{statement}
 use Rattle.desk.proofs.texts.put_lines.Tie as tie
 
 abbrev invariant-loop : tie.invariant-loop
-invariant-loop buffer₀ at count direction cover group water next₀ i₀ buffer next i = (i ≤ count) × Put at (cellLines (cellsBy direction cover group water) i) buffer₀ buffer next
+invariant-loop buffer₀ at count direction cover group water next₀ i₀ buffer next i = (i ≤ count) × Put at (cell_lines (cells_by direction cover group water) i) buffer₀ buffer next
 
 abbrev decreases-loop : tie.decreases-loop
 decreases-loop buffer₀ at count direction cover group water next₀ i₀ buffer next i = count - i
@@ -32,10 +32,10 @@ loop-again c =
     )
 
 same_length : tie.Need-same-length invariant-loop decreases-loop
-same_length c = put-length c.before.loop.invariant.1
+same_length c = put_length c.before.loop.invariant.1
 
 returns : tie.Need-returns invariant-loop decreases-loop
-returns c = lines-all _ _ _ c.before.loop.invariant.0 c.loop-test.false c.before.loop.invariant.1
+returns c = lines_all _ _ _ c.before.loop.invariant.0 c.loop-test.false c.before.loop.invariant.1
 
 pub put-lines-spec : {M : Type 1} → statement M
 put-lines-spec =

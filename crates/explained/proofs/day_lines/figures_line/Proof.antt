@@ -2,14 +2,14 @@
 use native.Mathlib.Omega.{arith}
 use borrow.Author.Rules.{rules}
 use Rattle.words.specs.Digits.{bytes}
-use Rattle.words.proofs.WritingLaws.{wrote-bytes}
-use Rattle.explained.specs.Lines.{figuresLine}
-use Rattle.explained.proofs.LineLaws.{say-then, two_then}
+use Rattle.words.proofs.WritingLaws.{wrote_bytes}
+use Rattle.explained.specs.Lines.{figures_line}
+use Rattle.explained.proofs.LineLaws.{say_then, two_then}
 use Rattle.explained.proofs.day_lines.figures_line.Statement.{statement}
 use Rattle.explained.proofs.day_lines.figures_line.Tie as tie
 
 returns : tie.Need-returns
-unfolding figuresLine bytes
+unfolding figures_line bytes
 returns c = let end = c.before.before in
     let snow = end.before.before.before.before.before in
     let third = snow.before.before.before.before.before in
@@ -18,7 +18,7 @@ returns c = let end = c.before.before in
     two_then (omega (arith, first.before.before.before.before.before.well-formed)) _ _ _ _ _ first.say-two.ensures
     (λ long. two_then long _ _ _ _ _ second.say-two2.ensures
     (λ long. two_then long _ _ _ _ _ third.say-two3.ensures
-    (λ long. say-then long _ _ _ snow.say.ensures (λ long. wrote-bytes end.put-bytes.ensures))))
+    (λ long. say_then long _ _ _ snow.say.ensures (λ long. wrote_bytes end.put-bytes.ensures))))
 
 pub figures-line-spec : {M : Type 1} → statement M
 figures-line-spec =

@@ -2,8 +2,8 @@
 use native.Mathlib.Omega.{arith}
 use borrow.Author.Rules.{rules}
 use Rattle.words.specs.Digits.{bytes}
-use Rattle.words.proofs.WritingLaws.{wrote-bytes}
-use Rattle.explained.proofs.LineLaws.{wrote-number, wrote-within, part_then, two_then}
+use Rattle.words.proofs.WritingLaws.{wrote_bytes}
+use Rattle.explained.proofs.LineLaws.{wrote_number, wrote_within, part_then, two_then}
 use Rattle.explained.proofs.day_lines.reason_line.Statement.{statement}
 use Rattle.explained.proofs.day_lines.reason_line.Tie as tie
 
@@ -14,11 +14,11 @@ returns c = let end = c.before.before in
     let colon = two.before.before.before.before in
     let number = colon.before.before.before.before.before in
     let serial = number.before.before.before.before.before in
-    wrote-within
-    (part_then (omega (arith, serial.before.before.before.before.before.before.well-formed)) (wrote-bytes serial.put-bytes.ensures)
-    (λ long. part_then long (rw number.before.wide.ensures at (wrote-number _ (omega arith) number.put-number.ensures))
-    (λ long. part_then long (wrote-bytes colon.put-bytes2.ensures)
-    (λ long. two_then long _ _ _ _ _ two.say-two.ensures (λ long. wrote-bytes end.put-bytes3.ensures)))))
+    wrote_within
+    (part_then (omega (arith, serial.before.before.before.before.before.before.well-formed)) (wrote_bytes serial.put-bytes.ensures)
+    (λ long. part_then long (rw number.before.wide.ensures at (wrote_number _ (omega arith) number.put-number.ensures))
+    (λ long. part_then long (wrote_bytes colon.put-bytes2.ensures)
+    (λ long. two_then long _ _ _ _ _ two.say-two.ensures (λ long. wrote_bytes end.put-bytes3.ensures)))))
     (omega arith)
 
 pub reason-line-spec : {M : Type 1} → statement M

@@ -9,14 +9,14 @@ use Rattle.paper.specs.Setup.{Setup}
 use Rattle.paper.specs.State.{State}
 use Rattle.paper.specs.Day.{Outcome}
 use Rattle.paper.specs.Reasons.{Explanation}
-use Rattle.records.specs.Grids.{setupAs}
-use Rattle.records.specs.Past.{stateAs}
-use Rattle.records.specs.Days.{dayAs}
-use Rattle.records.specs.Answers.{resultsAs, outcomeAs}
-use Rattle.reasons.specs.Whys.{whyAs}
-use Rattle.reasons.proofs.WhyLaws.{zeros-room}
-use Rattle.explained.specs.Telling.{figuresAs}
-use Rattle.explained.proofs.DayLaws.{few, given-reason, day-refused, day-told}
+use Rattle.records.specs.Grids.{setup_as}
+use Rattle.records.specs.Past.{state_as}
+use Rattle.records.specs.Days.{day_as}
+use Rattle.records.specs.Answers.{results_as, outcome_as}
+use Rattle.reasons.specs.Whys.{why_as}
+use Rattle.reasons.proofs.WhyLaws.{zeros_room}
+use Rattle.explained.specs.Telling.{figures_as}
+use Rattle.explained.proofs.DayLaws.{few, given_reason, day_refused, day_told}
 use Rattle.explained.proofs.explaining.explain_day.Statement.{statement}
 use Rattle.explained.proofs.explaining.explain_day.Tie as tie
 
@@ -30,13 +30,13 @@ start why = why.before.before.before.before.before.before.before.before.before.b
 -- what was handed over, as the paper's, and what the library answers
 abbrev setup : tie.Start → Setup
 setup c =
-    setupAs c.args.grid c.args.climate c.args.covers.now c.args.direction.now c.args.cover.now c.args.group.now c.args.water.now
+    setup_as c.args.grid c.args.climate c.args.covers.now c.args.direction.now c.args.cover.now c.args.group.now c.args.water.now
 
 abbrev state : tie.Start → State
-state c = stateAs c.args.soil.now c.args.snow.now c.args.past
+state c = state_as c.args.soil.now c.args.snow.now c.args.past
 
 abbrev answer : tie.After-why → Explanation
-answer why = whyAs why.why.result
+answer why = why_as why.why.result
 
 -- a reason is given from here on, and the cells are few
 abbrev line : tie.After-told → tie.After-tell-reason
@@ -46,13 +46,13 @@ cells-few : (told : tie.After-told) → length (start (why (line told))).args.di
 cells-few told =
     let w = why (line told) in
     let s = start w in
-    few (setup s) (state s) (dayAs s.args.day) s.args.cell
-    (given-reason (setup s) (state s) (dayAs s.args.day) s.args.cell (answer w) w.why.ensures s.args.buffer.now (line told).tell-reason.new.0
+    few (setup s) (state s) (day_as s.args.day) s.args.cell
+    (given_reason (setup s) (state s) (day_as s.args.day) s.args.cell (answer w) w.why.ensures s.args.buffer.now (line told).tell-reason.new.0
     (line told).tell-reason.result (line told).tell-reason.ensures told.told.given.0.0 told.told.given.1)
 
 -- a part of an array of zeros has its own length
 sized : (n : ℕ) → n ≤ 4096 → n ≡ length (take n (replicate {A = ℕ} 4096 0))
-sized n h = sym (length-take-le n (replicate 4096 0) (zeros-room n h))
+sized n h = sym (length-take-le n (replicate 4096 0) (zeros_room n h))
 
 why-requires : tie.Need-why-requires
 why-requires c κs = tt
@@ -80,7 +80,7 @@ returns c =
     let line = c.before.before.before.before in
     let w = why line in
     let s = start w in
-    day-refused (setup s) (state s) (dayAs s.args.day) s.args.cell (answer w) w.why.ensures s.args.buffer.now line.tell-reason.new.0
+    day_refused (setup s) (state s) (day_as s.args.day) s.args.cell (answer w) w.why.ensures s.args.buffer.now line.tell-reason.new.0
     line.tell-reason.result line.tell-reason.ensures c.enum_told.given.0.0 c.enum_told.given.1
 
 array-borrow-prefix-intercepted : tie.Need-array-borrow-prefix-intercepted
@@ -136,7 +136,7 @@ told day = day.before.before.before.before.before.before.before.before.before
 abbrev left : tie.After-day → Outcome
 left c =
     let new = c.day.new.1.1.1.1.1.1.1 in
-    outcomeAs c.day.result new.0 new.1.0 (resultsAs new.1.1.0 new.1.1.1.0 new.1.1.1.1.0 new.1.1.1.1.1.0 new.1.1.1.1.1.1.0)
+    outcome_as c.day.result new.0 new.1.0 (results_as new.1.1.0 new.1.1.1.0 new.1.1.1.1.0 new.1.1.1.1.1.0 new.1.1.1.1.1.1.0)
 
 same-length-4 : tie.Need-same-length-4
 same-length-4 c = (day (figures c.before.before.before)).day.auto.1.1.1.1.1.1.1.0
@@ -154,9 +154,9 @@ returns-2 c =
     let w = why (line (told e)) in
     let s = start w in
     let rest = drop (length s.args.direction.now) (replicate {A = ℕ} 4096 0) in
-    day-told (setup s) (state s) (dayAs s.args.day) s.args.cell (answer w) w.why.ensures s.args.buffer.now (line (told e)).tell-reason.new.0
+    day_told (setup s) (state s) (day_as s.args.day) s.args.cell (answer w) w.why.ensures s.args.buffer.now (line (told e)).tell-reason.new.0
     (line (told e)).tell-reason.result (line (told e)).tell-reason.ensures (told e).told.given.0.0 (told e).told.given.1
-    (left e) e.day.ensures rest rest rest rest rest (figuresAs (figures last).figures-at.result) (figures last).figures-at.ensures
+    (left e) e.day.ensures rest rest rest rest rest (figures_as (figures last).figures-at.result) (figures last).figures-at.ensures
     last.figures-line.new.0 last.figures-line.result (omega (arith, s.good)) last.figures-line.ensures
 
 pub explain-day-spec : {M : Type 1} → statement M

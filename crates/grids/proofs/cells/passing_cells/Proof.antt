@@ -8,17 +8,17 @@ use borrow.Author.Rules.{rules}
 use borrow.Author.Tests.{not-true, not-false}
 use lib.IntN.{ℤ, pos}
 use lib.ListN.{length, drop}
-use Rattle.grids.specs.Cells.{cellFits, passing}
+use Rattle.grids.specs.Cells.{cell_fits, passing}
 use Rattle.grids.proofs.WholeLaws.{read, whole}
-use Rattle.grids.proofs.CellLaws.{passing-next, passing-stop, passing-end}
+use Rattle.grids.proofs.CellLaws.{passing_next, passing_stop, passing_end}
 use Rattle.grids.proofs.cells.passing_cells.Statement.{statement}
 use Rattle.grids.proofs.cells.passing_cells.Tie as tie
 
 abbrev invariant-loop : tie.invariant-loop
-invariant-loop no-data cells i₀ i = passing (cellFits (to_z w32 no-data)) cells ≡ i + passing (cellFits (to_z w32 no-data)) (drop i cells)
+invariant-loop no_data_lem cells i₀ i = passing (cell_fits (to_z w32 no_data_lem)) cells ≡ i + passing (cell_fits (to_z w32 no_data_lem)) (drop i cells)
 
 abbrev decreases-loop : tie.decreases-loop
-decreases-loop no-data cells i₀ i = length cells - i
+decreases-loop no_data_lem cells i₀ i = length cells - i
 
 loop-holds : tie.Need-loop-init invariant-loop decreases-loop
 loop-holds c = sym (zero-add _)
@@ -27,22 +27,22 @@ returns : tie.Need-returns invariant-loop decreases-loop
 returns c =
     let at-loop = c.before.before.before.before in
     let start = at-loop.before in
-    passing-stop (cellFits (read start.args.no-data)) start.args.cells.now (pos 0) at-loop.loop.i at-loop.loop.invariant c.before.before.before.loop-test.true
-    (ap (cellFits (read start.args.no-data)) (sym (whole _ (record { sfits = c.before.before.cell.given }))) ∙ sym c.before.cell-fits.ensures ∙ not-true _ c.if1.true)
-    ∙ ap (λ (z : ℤ). passing (cellFits z) start.args.cells.now) (whole _ start.ranges.no-data)
+    passing_stop (cell_fits (read start.args.no_data_lem)) start.args.cells.now (pos 0) at-loop.loop.i at-loop.loop.invariant c.before.before.before.loop-test.true
+    (ap (cell_fits (read start.args.no_data_lem)) (sym (whole _ (record { sfits = c.before.before.cell.given }))) ∙ sym c.before.cell-fits.ensures ∙ not-true _ c.if1.true)
+    ∙ ap (λ (z : ℤ). passing (cell_fits z) start.args.cells.now) (whole _ start.ranges.no_data_lem)
 
 loop-again : tie.Need-loop-preserved invariant-loop decreases-loop
 loop-again c =
     let at-loop = c.before.before.before.before in
     let start = at-loop.before in
-    passing-next (cellFits (read start.args.no-data)) start.args.cells.now (pos 0) at-loop.loop.i at-loop.loop.invariant c.before.before.before.loop-test.true
-    (ap (cellFits (read start.args.no-data)) (sym (whole _ (record { sfits = c.before.before.cell.given }))) ∙ sym c.before.cell-fits.ensures ∙ not-false _ c.if1.false)
+    passing_next (cell_fits (read start.args.no_data_lem)) start.args.cells.now (pos 0) at-loop.loop.i at-loop.loop.invariant c.before.before.before.loop-test.true
+    (ap (cell_fits (read start.args.no_data_lem)) (sym (whole _ (record { sfits = c.before.before.cell.given }))) ∙ sym c.before.cell-fits.ensures ∙ not-false _ c.if1.false)
 
 returns-2 : tie.Need-returns-2 invariant-loop decreases-loop
 returns-2 c =
     let start = c.before.before in
-    passing-end (cellFits (read start.args.no-data)) start.args.cells.now (pos 0) c.before.loop.i c.before.loop.invariant c.loop-test.false
-    ∙ ap (λ (z : ℤ). passing (cellFits z) start.args.cells.now) (whole _ start.ranges.no-data)
+    passing_end (cell_fits (read start.args.no_data_lem)) start.args.cells.now (pos 0) c.before.loop.i c.before.loop.invariant c.loop-test.false
+    ∙ ap (λ (z : ℤ). passing (cell_fits z) start.args.cells.now) (whole _ start.ranges.no_data_lem)
 
 pub passing-cells-spec : {M : Type 1} → statement M
 passing-cells-spec =

@@ -5,15 +5,15 @@ use borrow.Author.Rules.{rules}
 use lib.IntN.{pos}
 use lib.ListN.{length}
 use Rattle.words.specs.Digits.{written}
-use Rattle.words.proofs.WritingLaws.{wrote-length}
-use Rattle.grids.specs.Forms.{mostWhole}
+use Rattle.words.proofs.WritingLaws.{wrote_length}
+use Rattle.grids.specs.Forms.{most_whole}
 use Rattle.grids.proofs.WholeLaws.{whole}
-use Rattle.grids.proofs.FormLaws.{Laid, laid_none, laid_next, laid-all}
+use Rattle.grids.proofs.FormLaws.{Laid, laid_none, laid_next, laid_all}
 use Rattle.grids.proofs.cells.put_cells.Statement.{statement}
 use Rattle.grids.proofs.cells.put_cells.Tie as tie
 
 abbrev invariant-loop : tie.invariant-loop
-invariant-loop buffer₀ at columns cells next₀ done₀ i₀ buffer next done i = Laid written mostWhole columns cells at buffer₀ buffer i done next
+invariant-loop buffer₀ at columns cells next₀ done₀ i₀ buffer next done i = Laid written most_whole columns cells at buffer₀ buffer i done next
 
 abbrev decreases-loop : tie.decreases-loop
 decreases-loop buffer₀ at columns cells next₀ done₀ i₀ buffer next done i = length cells - i
@@ -34,10 +34,10 @@ loop-again c =
     (rw (whole _ (record { sfits = c.before.before.before.before.before.before.cell.given })) at c.before.before.before.put-cell.ensures)
 
 same_length : tie.Need-same-length invariant-loop decreases-loop
-same_length c = wrote-length c.before.loop.invariant.wrote
+same_length c = wrote_length c.before.loop.invariant.wrote
 
 returns : tie.Need-returns invariant-loop decreases-loop
-returns c = laid-all _ _ _ _ _ _ _ _ _ _ c.before.loop.invariant c.loop-test.false
+returns c = laid_all _ _ _ _ _ _ _ _ _ _ c.before.loop.invariant c.loop-test.false
 
 pub put-cells-spec : {M : Type 1} → statement M
 put-cells-spec =

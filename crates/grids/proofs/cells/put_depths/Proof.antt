@@ -4,14 +4,14 @@ use native.Mathlib.Omega.{arith}
 use borrow.Author.Rules.{rules}
 use lib.ListN.{length}
 use Rattle.words.specs.Inches.{inches}
-use Rattle.words.proofs.WritingLaws.{wrote-length}
-use Rattle.grids.specs.Forms.{mostDepth}
-use Rattle.grids.proofs.FormLaws.{Laid, laid_none, laid_next, laid-all}
+use Rattle.words.proofs.WritingLaws.{wrote_length}
+use Rattle.grids.specs.Forms.{most_depth}
+use Rattle.grids.proofs.FormLaws.{Laid, laid_none, laid_next, laid_all}
 use Rattle.grids.proofs.cells.put_depths.Statement.{statement}
 use Rattle.grids.proofs.cells.put_depths.Tie as tie
 
 abbrev invariant-loop : tie.invariant-loop
-invariant-loop buffer₀ at columns units next₀ done₀ i₀ buffer next done i = Laid inches mostDepth columns units at buffer₀ buffer i done next
+invariant-loop buffer₀ at columns units next₀ done₀ i₀ buffer next done i = Laid inches most_depth columns units at buffer₀ buffer i done next
 
 abbrev decreases-loop : tie.decreases-loop
 decreases-loop buffer₀ at columns units next₀ done₀ i₀ buffer next done i = length units - i
@@ -32,10 +32,10 @@ loop-again c =
     c.before.before.before.put-depth.ensures
 
 same_length : tie.Need-same-length invariant-loop decreases-loop
-same_length c = wrote-length c.before.loop.invariant.wrote
+same_length c = wrote_length c.before.loop.invariant.wrote
 
 returns : tie.Need-returns invariant-loop decreases-loop
-returns c = laid-all _ _ _ _ _ _ _ _ _ _ c.before.loop.invariant c.loop-test.false
+returns c = laid_all _ _ _ _ _ _ _ _ _ _ c.before.loop.invariant c.loop-test.false
 
 pub put-depths-spec : {M : Type 1} → statement M
 put-depths-spec =

@@ -2,12 +2,12 @@
 use mathlib.Core.Path.{refl}
 use borrow.Author.Rules.{rules}
 use Rattle.words.specs.Digits.{bytes}
-use Rattle.grids.specs.Headers.{isName, named}
+use Rattle.grids.specs.Headers.{is_name, named}
 use Rattle.grids.proofs.headers.named.Statement.{statement}
 use Rattle.grids.proofs.headers.named.Tie as tie
 
 returns : tie.Need-returns
-unfolding named isName bytes
+unfolding named is_name bytes
 returns c =
     rw (
       c.before.before.before.before.before.before.before.before.before.before.named-at.ensures,

@@ -1,13 +1,13 @@
 -- `headers::values` meets its contract: each value by its word.
 use mathlib.Core.Path.{refl}
 use borrow.Author.Rules.{rules}
-use Rattle.grids.specs.Headers.{valuesIn}
+use Rattle.grids.specs.Headers.{values_in}
 use Rattle.grids.proofs.WholeLaws.{whole}
 use Rattle.grids.proofs.headers.values.Statement.{statement}
 use Rattle.grids.proofs.headers.values.Tie as tie
 
 returns : tie.Need-returns
-unfolding valuesIn
+unfolding values_in
 returns c =
     rw (
       whole _ (record { sfits = c.whole-at.type-inv }),

@@ -5,7 +5,7 @@ use native.Mathlib.Omega.{arith}
 use borrow.Author.Rules.{rules}
 use lib.ListN.{length}
 use Rattle.grids.specs.Headers.{lowered, same}
-use Rattle.grids.proofs.NameLaws.{lowered-length, lowered-at, other_length, left, same_next, same_stop, same_end}
+use Rattle.grids.proofs.NameLaws.{lowered_length, lowered_at, other_length, left, same_next, same_stop, same_end}
 use Rattle.grids.proofs.names.is_name.Statement.{statement}
 use Rattle.grids.proofs.names.is_name.Tie as tie
 
@@ -16,7 +16,7 @@ abbrev decreases-loop : tie.decreases-loop
 decreases-loop word name i₀ i = length word - i
 
 returns : tie.Need-returns invariant-loop decreases-loop
-returns c = sym (other_length _ _ (λ e. c.if1.true (sym (lowered-length _) ∙ e)))
+returns c = sym (other_length _ _ (λ e. c.if1.true (sym (lowered_length _) ∙ e)))
 
 loop-holds : tie.Need-loop-init invariant-loop decreases-loop
 loop-holds c = (c.if1.false, refl)
@@ -30,11 +30,11 @@ returns-2 c =
     let a = at-loop.before.before.before.before.args in
     let word = a.word.now in
     let i = at-loop.loop.i in
-    let inside : i < length (lowered word) = rw (lowered-length word) c.before.before.before.before.loop-test.true in
+    let inside : i < length (lowered word) = rw (lowered_length word) c.before.before.before.before.loop-test.true in
     sym
     (at-loop.loop.invariant.1
-    ∙ same_stop (lowered word) a.name.now i (lowered-length word ∙ at-loop.loop.invariant.0) inside
-    (λ e. c.if2.true (c.before.before.lower.ensures ∙ sym (lowered-at word i) ∙ e)))
+    ∙ same_stop (lowered word) a.name.now i (lowered_length word ∙ at-loop.loop.invariant.0) inside
+    (λ e. c.if2.true (c.before.before.lower.ensures ∙ sym (lowered_at word i) ∙ e)))
 
 loop-again : tie.Need-loop-preserved invariant-loop decreases-loop
 loop-again c =
@@ -42,17 +42,17 @@ loop-again c =
     let a = at-loop.before.before.before.before.args in
     let word = a.word.now in
     let i = at-loop.loop.i in
-    let inside : i < length (lowered word) = rw (lowered-length word) c.before.before.before.before.loop-test.true in
-    let equal = lowered-at word i ∙ sym c.before.before.lower.ensures ∙ c.if2.false in
-    (at-loop.loop.invariant.0, at-loop.loop.invariant.1 ∙ same_next (lowered word) a.name.now i (lowered-length word ∙ at-loop.loop.invariant.0) inside equal)
+    let inside : i < length (lowered word) = rw (lowered_length word) c.before.before.before.before.loop-test.true in
+    let equal = lowered_at word i ∙ sym c.before.before.lower.ensures ∙ c.if2.false in
+    (at-loop.loop.invariant.0, at-loop.loop.invariant.1 ∙ same_next (lowered word) a.name.now i (lowered_length word ∙ at-loop.loop.invariant.0) inside equal)
 
 returns-3 : tie.Need-returns-3 invariant-loop decreases-loop
 returns-3 c =
     let at-loop = c.before in
     let a = at-loop.before.before.before.before.args in
     let word = a.word.now in
-    let past : length (lowered word) ≤ at-loop.loop.i = rw (lowered-length word) c.loop-test.false in
-    sym (at-loop.loop.invariant.1 ∙ same_end (lowered word) a.name.now at-loop.loop.i (lowered-length word ∙ at-loop.loop.invariant.0) past)
+    let past : length (lowered word) ≤ at-loop.loop.i = rw (lowered_length word) c.loop-test.false in
+    sym (at-loop.loop.invariant.1 ∙ same_end (lowered word) a.name.now at-loop.loop.i (lowered_length word ∙ at-loop.loop.invariant.0) past)
 
 pub is-name-spec : {M : Type 1} → statement M
 is-name-spec =

@@ -5,7 +5,7 @@ use native.Mathlib.Omega.{arith}
 use borrow.Author.Rules.{rules}
 use lib.ListN.{length}
 use Rattle.grids.proofs.WholeLaws.{whole}
-use Rattle.grids.proofs.ScanLaws.{Filled, filled-first, filled-room, filled_next, filled-all}
+use Rattle.grids.proofs.ScanLaws.{Filled, filled_first, filled_room, filled_next, filled_all}
 use Rattle.grids.proofs.reading.fill.Statement.{statement}
 use Rattle.grids.proofs.reading.fill.Tie as tie
 
@@ -16,16 +16,16 @@ abbrev decreases-loop : tie.decreases-loop
 decreases-loop text from cells₀ i₀ word₀ cells i word = length text - word.start
 
 loop-holds : tie.Need-loop-init invariant-loop decreases-loop
-loop-holds c = filled-first _ _ _ _ _ c.before.before.requires c.next_word.ensures
+loop-holds c = filled_first _ _ _ _ _ c.before.before.requires c.next_word.ensures
 
 part-whole-end : tie.Need-slice-bounds-whole-end invariant-loop decreases-loop
 part-whole-end c = c.before.before.loop.invariant.onward.inside c.if1.true
 
 slice-set-from-cell : tie.Need-slice-set-from-cell invariant-loop decreases-loop
-slice-set-from-cell c = filled-room _ _ _ _ _ _ _ c.before.before.before.before.loop.invariant c.before.before.if1.true
+slice-set-from-cell c = filled_room _ _ _ _ _ _ _ c.before.before.before.before.loop.invariant c.before.before.if1.true
 
 add-i : tie.Need-overflow-add-i invariant-loop decreases-loop
-add-i c = record { fits = omega (arith, filled-room _ _ _ _ _ _ _ c.before.before.before.before.loop.invariant c.before.before.if1.true) }
+add-i c = record { fits = omega (arith, filled_room _ _ _ _ _ _ _ c.before.before.before.before.loop.invariant c.before.before.if1.true) }
 
 loop-less : tie.Need-loop-smaller invariant-loop decreases-loop
 loop-less c =
@@ -43,7 +43,7 @@ same_length : tie.Need-same-length invariant-loop decreases-loop
 same_length c = c.before.before.loop.invariant.sized
 
 returns : tie.Need-returns invariant-loop decreases-loop
-returns c = filled-all _ _ _ _ _ _ _ c.before.before.loop.invariant c.if1.false
+returns c = filled_all _ _ _ _ _ _ _ c.before.before.loop.invariant c.if1.false
 
 pub fill_spec : {M : Type 1} → statement M
 fill_spec =

@@ -2,7 +2,7 @@
 use mathlib.Core.Path.{refl}
 use native.Mathlib.Numerals.{add-one}
 use native.Mathlib.Omega.{arith}
-use Rattle.grids.specs.Cells.{passingWith}
+use Rattle.grids.specs.Cells.{passing_with}
 use Rattle.grids.proofs.reading.passed.Statement.{statement}
 use Rattle.grids.proofs.reading.passed.Tie as tie
 
@@ -10,11 +10,11 @@ add-result : tie.Need-overflow-add-result
 add-result c = record { fits = omega (arith, c.before.requires) }
 
 returns : tie.Need-returns
-unfolding passingWith
+unfolding passing_with
 returns c = rw c.if1.true (add-one c.before.args.passing)
 
 returns-2 : tie.Need-returns-2
-unfolding passingWith
+unfolding passing_with
 returns-2 c = rw c.if1.false refl
 
 pub passed-spec : {M : Type 1} → statement M

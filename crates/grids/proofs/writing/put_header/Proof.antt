@@ -5,7 +5,7 @@ use borrow.Author.Rules.{rules}
 use lib.ListN.{length}
 use Rattle.words.specs.Digits.{bytes}
 use Rattle.grids.proofs.WholeLaws.{whole}
-use Rattle.grids.proofs.FormLaws.{header-wrote}
+use Rattle.grids.proofs.FormLaws.{header_wrote}
 use Rattle.grids.proofs.writing.put_header.Statement.{statement}
 use Rattle.grids.proofs.writing.put_header.Tie as tie
 
@@ -35,7 +35,7 @@ returns c =
     let a = first b in
     let told = a.before.before.before in
     let long : length told.before.before.before.before.before.before.args.buffer.now < 18446744073709551616 = told.before.before.before.before.before.before.good.0.0 in
-    header-wrote _ (omega (arith, long)) a.put-size.ensures b.put-size2.ensures m.put-measure.ensures d.put-measure2.ensures e.put-measure3.ensures
+    header_wrote _ (omega (arith, long)) a.put-size.ensures b.put-size2.ensures m.put-measure.ensures d.put-measure2.ensures e.put-measure3.ensures
     (rw (whole _ (record { sfits = told.struct_told.given.1.1.1.1.0.1 })) at c.before.before.put-no-data.ensures)
 
 pub put-header-spec : {M : Type 1} → statement M

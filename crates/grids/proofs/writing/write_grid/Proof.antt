@@ -7,13 +7,13 @@ use lib.Dec.{leb}
 use lib.IntN.{ℤ}
 use lib.ListN.{length}
 use borrow.Author.Rules.{rules}
-use Rattle.grids.specs.Cells.{cellFits, passing}
-use Rattle.grids.specs.Forms.{wholeForm, wholeVerdict}
+use Rattle.grids.specs.Cells.{cell_fits, passing}
+use Rattle.grids.specs.Forms.{whole_form, whole_verdict}
 use Rattle.grids.specs.Judging.{judged}
-use Rattle.grids.specs.Given.{headerAs, verdictAs}
+use Rattle.grids.specs.Given.{header_as, verdict_as}
 use Rattle.grids.specs.declared.judging.GridVerdict.TheVariants.{Accepted}
 use Rattle.grids.proofs.WholeLaws.{whole}
-use Rattle.grids.proofs.AnswerLaws.{into-nothing, form-judged, room-enough, writes-yes, writes-no}
+use Rattle.grids.proofs.AnswerLaws.{into_nothing, form_judged, room_enough, writes_yes, writes_no}
 use Rattle.grids.proofs.writing.write_grid.Statement.{statement}
 use Rattle.grids.proofs.writing.write_grid.Tie as tie
 
@@ -25,35 +25,35 @@ abbrev start : tie.After-judged → tie.Start
 start c = (dry c).before.before.before.before.before
 
 text_same : (c : tie.After-judged) → (dry c).put-grid.new.0 ++ (start c).args.text.now ≡ (start c).args.text.now
-text_same c = ap (λ l. l ++ (start c).args.text.now) (into-nothing (dry c).put-grid.ensures)
+text_same c = ap (λ l. l ++ (start c).args.text.now) (into_nothing (dry c).put-grid.ensures)
 
-says : (c : tie.After-judged) → verdictAs c.judged.result ≡ wholeVerdict (headerAs (start c).args.header) (start c).args.cells.now (length (start c).args.text.now)
-unfolding wholeVerdict
+says : (c : tie.After-judged) → verdict_as c.judged.result ≡ whole_verdict (header_as (start c).args.header) (start c).args.cells.now (length (start c).args.text.now)
+unfolding whole_verdict
 says c =
     let put = dry c in
     let found = put.before.before in
     let a = (start c).args in
-    let h = headerAs a.header in
+    let h = header_as a.header in
     c.judged.ensures
     ∙ ap (λ p. judged h p (length a.cells.now) (leb put.put-grid.result (length (put.put-grid.last.0 ++ a.text.now))))
-    (found.passing-cells.ensures ∙ ap (λ (z : ℤ). passing (cellFits z) a.cells.now) (whole _ (record { sfits = found.before.struct_told.given.1.1.1.1.0.1 })))
-    ∙ form-judged h _ (length a.cells.now) a.text.now put.put-grid.ensures (omega (arith, put.put-grid.ensures.short))
+    (found.passing-cells.ensures ∙ ap (λ (z : ℤ). passing (cell_fits z) a.cells.now) (whole _ (record { sfits = found.before.struct_told.given.1.1.1.1.0.1 })))
+    ∙ form_judged h _ (length a.cells.now) a.text.now put.put-grid.ensures (omega (arith, put.put-grid.ensures.short))
 
-enough : (c : tie.After-judged) → c.judged.result ≡ Accepted → length (wholeForm (headerAs (start c).args.header) (start c).args.cells.now) ≤ length (start c).args.text.now
-unfolding wholeVerdict
-enough c e = room-enough _ _ _ _ _ _ (says c) e
+enough : (c : tie.After-judged) → c.judged.result ≡ Accepted → length (whole_form (header_as (start c).args.header) (start c).args.cells.now) ≤ length (start c).args.text.now
+unfolding whole_verdict
+enough c e = room_enough _ _ _ _ _ _ (says c) e
 
 returns : tie.Need-returns
 returns c =
     let at-judged = c.before.before.before.before.before.before in
     let a = (start at-judged).args in
     let long : length a.text.now < 18446744073709551616 = (start at-judged).well-formed.1.1.0.0 in
-    writes-yes _ _ _ _ _ (says at-judged) c.before.before.before.before.enum_told.given.1 (enough at-judged c.before.before.before.before.enum_told.given.1) (omega (arith, long)) (rw (text_same at-judged) at c.before.before.put-grid2.ensures)
+    writes_yes _ _ _ _ _ (says at-judged) c.before.before.before.before.enum_told.given.1 (enough at-judged c.before.before.before.before.enum_told.given.1) (omega (arith, long)) (rw (text_same at-judged) at c.before.before.put-grid2.ensures)
 
 returns-2 : tie.Need-returns-2
 returns-2 c =
     let at-judged = c.before.before in
-    writes-no _ _ _ _ _ (says at-judged) _ c.enum-told2.given.1 (text_same at-judged)
+    writes_no _ _ _ _ _ (says at-judged) _ c.enum-told2.given.1 (text_same at-judged)
 
 pub write-grid-spec : {M : Type 1} → statement M
 write-grid-spec =

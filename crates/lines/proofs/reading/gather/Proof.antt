@@ -6,7 +6,7 @@ use Prim.Native.Nat.{◌-◌}
 use native.Mathlib.Omega.{arith}
 use borrow.Author.Rules.{rules}
 use lib.ListN.{length}
-use Rattle.lines.proofs.ReadingLaws.{Stands, stands-first, text-end, blanks-end, room-left, next-number, bad-end}
+use Rattle.lines.proofs.ReadingLaws.{Stands, stands_first, text_end, blanks_end, room_left, next_number, bad_end}
 
 abbrev invariant-loop : tie.invariant-loop
 invariant-loop input numbers₀ count₀ from₀ numbers count from = Stands input numbers₀ numbers count from
@@ -15,13 +15,13 @@ abbrev decreases-loop : tie.decreases-loop
 decreases-loop input numbers₀ count₀ from₀ numbers count from = length input - from
 
 loop-holds : tie.Need-loop-init invariant-loop decreases-loop
-loop-holds c = stands-first c.before.args.input.now c.before.args.numbers.now c.before.requires
+loop-holds c = stands_first c.before.args.input.now c.before.args.numbers.now c.before.requires
 
 next-word-requires : tie.Need-next-word-requires invariant-loop decreases-loop
 next-word-requires c κs = search rules
 
 returns : tie.Need-returns invariant-loop decreases-loop
-returns c = blanks-end _ _ _ _ _ c.before.before.before.loop.invariant _ _ c.before.next_word.ensures c.if1.true
+returns c = blanks_end _ _ _ _ _ c.before.before.before.loop.invariant _ _ c.before.next_word.ensures c.if1.true
 
 sub-code : tie.Need-overflow-sub-code invariant-loop decreases-loop
 sub-code c = search rules
@@ -37,18 +37,18 @@ code-requires c κs = search rules
 
 returns-2 : tie.Need-returns-2 invariant-loop decreases-loop
 returns-2 c = let some = c.before.before.before in
-    bad-end _ _ _ _ _ some.before.before.before.loop.invariant _ _ some.before.next_word.ensures some.if1.false _ c.before.code.ensures c.if2.true
+    bad_end _ _ _ _ _ some.before.before.before.loop.invariant _ _ some.before.next_word.ensures some.if1.false _ c.before.code.ensures c.if2.true
 
 mul-numbers : tie.Need-overflow-mul-numbers invariant-loop decreases-loop
 mul-numbers c = search rules
 
 element-write-numbers : tie.Need-element-write-numbers invariant-loop decreases-loop
 element-write-numbers c = let some = c.before.before.before in
-    room-left _ _ _ _ _ some.before.before.before.loop.invariant _ _ some.before.next_word.ensures some.if1.false
+    room_left _ _ _ _ _ some.before.before.before.loop.invariant _ _ some.before.next_word.ensures some.if1.false
 
 add-count : tie.Need-overflow-add-count invariant-loop decreases-loop
 add-count c = let some = c.before.before.before in
-    omega (arith, room-left _ _ _ _ _ some.before.before.before.loop.invariant _ _ some.before.next_word.ensures some.if1.false)
+    omega (arith, room_left _ _ _ _ _ some.before.before.before.loop.invariant _ _ some.before.next_word.ensures some.if1.false)
 
 loop-less : tie.Need-loop-smaller invariant-loop decreases-loop
 loop-less c = let some = c.before.before.before in
@@ -56,10 +56,10 @@ loop-less c = let some = c.before.before.before in
 
 loop-again : tie.Need-loop-preserved invariant-loop decreases-loop
 loop-again c = let some = c.before.before.before in
-    next-number _ _ _ _ _ some.before.before.before.loop.invariant _ _ some.before.next_word.ensures some.if1.false _ c.before.code.ensures c.if2.false
+    next_number _ _ _ _ _ some.before.before.before.loop.invariant _ _ some.before.next_word.ensures some.if1.false _ c.before.code.ensures c.if2.false
 
 returns-3 : tie.Need-returns-3 invariant-loop decreases-loop
-returns-3 c = text-end _ _ _ _ _ c.before.loop.invariant c.loop-test.false
+returns-3 c = text_end _ _ _ _ _ c.before.loop.invariant c.loop-test.false
 
 pub gather-spec : {M : Type 1} → statement M
 gather-spec =

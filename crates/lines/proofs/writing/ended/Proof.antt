@@ -2,17 +2,17 @@
 use native.Mathlib.Omega.{arith}
 use borrow.Author.Rules.{rules}
 use Rattle.words.specs.Digits.{bytes}
-use Rattle.lines.specs.Lines.{endLine}
+use Rattle.lines.specs.Lines.{end_line}
 use Rattle.lines.proofs.writing.ended.Statement.{statement}
 use Rattle.lines.proofs.writing.ended.Tie as tie
-use Rattle.words.proofs.WritingLaws.{wrote-bytes, wrote_then}
-use Rattle.lines.proofs.WritingLaws.{wrote-item, row_last}
+use Rattle.words.proofs.WritingLaws.{wrote_bytes, wrote_then}
+use Rattle.lines.proofs.WritingLaws.{wrote_item, row_last}
 
 returns : tie.Need-returns
-unfolding endLine bytes
+unfolding end_line bytes
 returns c = let number = c.before.before in
-    wrote_then (omega arith) (wrote-bytes number.before.before.before.before.put-bytes.ensures)
-    (row_last _ (wrote-item _ _ (omega arith) number.put_item.ensures))
+    wrote_then (omega arith) (wrote_bytes number.before.before.before.before.put-bytes.ensures)
+    (row_last _ (wrote_item _ _ (omega arith) number.put_item.ensures))
 
 pub ended-spec : {M : Type 1} → statement M
 ended-spec = tie.close (tie.spec (λ c. search rules) (λ c κs. search rules) (λ c κs. search rules) (λ c. search rules) returns)

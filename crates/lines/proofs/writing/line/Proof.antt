@@ -3,18 +3,18 @@ use native.Mathlib.Omega.{arith}
 use borrow.Author.Rules.{rules}
 use Rattle.lines.proofs.writing.line.Statement.{statement}
 use Rattle.lines.proofs.writing.line.Tie as tie
-use Rattle.lines.specs.Lines.{dayLine}
-use Rattle.lines.proofs.WritingLaws.{row-pair, row-two}
+use Rattle.lines.specs.Lines.{day_line}
+use Rattle.lines.proofs.WritingLaws.{row_pair, row_two}
 
 returns : tie.Need-returns
-unfolding dayLine
+unfolding day_line
 returns c = let fourth = c.before.before in
     let third = fourth.before.before.before.before in
     let second = third.before.before.before.before in
     let first = second.before.before.before.before in
-    row-pair (omega arith) _ _ _ _ (rw first.before.wide.ensures at first.pair.ensures)
-    (row-pair (omega arith) _ _ _ _ second.pair2.ensures
-    (row-pair (omega arith) _ _ _ _ third.pair3.ensures (row-two _ _ fourth.pair4.ensures)))
+    row_pair (omega arith) _ _ _ _ (rw first.before.wide.ensures at first.pair.ensures)
+    (row_pair (omega arith) _ _ _ _ second.pair2.ensures
+    (row_pair (omega arith) _ _ _ _ third.pair3.ensures (row_two _ _ fourth.pair4.ensures)))
 
 pub line-spec : {M : Type 1} → statement M
 line-spec =

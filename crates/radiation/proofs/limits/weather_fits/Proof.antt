@@ -1,11 +1,11 @@
 -- `limits::weather_fits` meets its contract: the mean and the chosen estimate.
 use Rattle.std.proofs.Common.{rules}
-use Rattle.paper.specs.Radiation.{weatherFits}
+use Rattle.paper.specs.Radiation.{weather_fits}
 use Rattle.radiation.proofs.limits.weather_fits.Statement.{statement}
 use Rattle.radiation.proofs.limits.weather_fits.Tie as tie
 
 returns : tie.Need-returns
-unfolding weatherFits
+unfolding weather_fits
 returns c = cc
 
 pub weather-fits-spec : {M : Type 1} → statement M

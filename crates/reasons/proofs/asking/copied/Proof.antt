@@ -4,14 +4,14 @@ use mathlib.Core.Path.{◌≡◌, refl, sym, ◌∙◌}
 use native.Mathlib.Omega.{arith}
 use borrow.Author.Rules.{rules}
 use lib.ListN.{length, get_or, replicate, length-set, length-replicate}
-use Rattle.theory.specs.Lists.{madeOver}
+use Rattle.theory.specs.Lists.{made_over}
 use Rattle.theory.proofs.ListLaws.{over_none, wrote}
 use Rattle.reasons.proofs.AskingLaws.{copied_all}
 use Rattle.reasons.proofs.asking.copied.Statement.{statement}
 use Rattle.reasons.proofs.asking.copied.Tie as tie
 
 abbrev invariant-loop : tie.invariant-loop
-invariant-loop store copy₀ i₀ copy i = (i ≤ length store) × (copy ≡ madeOver i (λ k. get_or store k 0) (replicate 4096 0)) × (length copy ≡ 4096)
+invariant-loop store copy₀ i₀ copy i = (i ≤ length store) × (copy ≡ made_over i (λ k. get_or store k 0) (replicate 4096 0)) × (length copy ≡ 4096)
 
 abbrev decreases-loop : tie.decreases-loop
 decreases-loop store copy₀ i₀ copy i = length store - i

@@ -10,7 +10,7 @@ use lib.Dec.{eqb}
 use lib.ListN.{length}
 use Rattle.paper.specs.Covers.{code_of, entries}
 use Rattle.records.proofs.PlaceLaws.{PassedTo}
-use Rattle.reasons.proofs.GroundLaws.{entry_found, entry-none}
+use Rattle.reasons.proofs.GroundLaws.{entry_found, entry_none}
 use Rattle.reasons.proofs.grounds.entry_for.Statement.{statement}
 use Rattle.reasons.proofs.grounds.entry_for.Tie as tie
 
@@ -32,7 +32,7 @@ loop-again c = (search rules, search rules, below_more _ _ c.before.before.befor
 
 returns-2 : tie.Need-returns-2 invariant-loop decreases-loop
 unfolding entries
-returns-2 c = (c.before.loop.invariant.0 ∙ entry-none _ _ _ c.before.loop.invariant.2 (omega arith), omega arith)
+returns-2 c = (c.before.loop.invariant.0 ∙ entry_none _ _ _ c.before.loop.invariant.2 (omega arith), omega arith)
 
 pub entry-for-spec : {M : Type 1} → statement M
 entry-for-spec =

@@ -1,11 +1,11 @@
 -- `reading::facts_of` meets its contract: each fact is one difference or sum, and none passes 64 bits.
 use borrow.Author.Rules.{rules}
-use Rattle.reasons.specs.Reading.{factsFrom}
+use Rattle.reasons.specs.Reading.{facts_from}
 use Rattle.reasons.proofs.reading.facts_of.Statement.{statement}
 use Rattle.reasons.proofs.reading.facts_of.Tie as tie
 
 returns : tie.Need-returns
-unfolding factsFrom
+unfolding facts_from
 returns c = cc
 
 pub facts-of-spec : {M : Type 1} → statement M

@@ -8,16 +8,16 @@ use types.Run.{miss}
 use borrow.Author.Rules.{rules}
 use Rattle.paper.specs.Setup.{Setup, cells}
 use Rattle.paper.specs.State.{State}
-use Rattle.paper.specs.Refusals.{oneEach}
+use Rattle.paper.specs.Refusals.{one_each}
 use Rattle.paper.specs.Day.{Results}
-use Rattle.records.specs.Grids.{setupAs}
-use Rattle.records.specs.Past.{stateAs}
-use Rattle.records.specs.Days.{dayAs}
-use Rattle.records.specs.Answers.{resultsAs}
-use Rattle.records.proofs.VerdictLaws.{accepted-back}
-use Rattle.admission.proofs.TestLaws.{lent-passes}
-use Rattle.recharge.specs.Surveyed.{lentLengths, DayReady}
-use Rattle.recharge.proofs.SurveyedLaws.{lent-refuses, survey-refuses}
+use Rattle.records.specs.Grids.{setup_as}
+use Rattle.records.specs.Past.{state_as}
+use Rattle.records.specs.Days.{day_as}
+use Rattle.records.specs.Answers.{results_as}
+use Rattle.records.proofs.VerdictLaws.{accepted_back}
+use Rattle.admission.proofs.TestLaws.{lent_passes}
+use Rattle.recharge.specs.Surveyed.{lent_lengths, DayReady}
+use Rattle.recharge.proofs.SurveyedLaws.{lent_refuses, survey_refuses}
 use Rattle.recharge.proofs.calls.day.Statement.{statement}
 use Rattle.recharge.proofs.calls.day.Tie as tie
 
@@ -27,36 +27,36 @@ start c = c.before.before.before.before.before.before.before.before.before.befor
 
 abbrev setup : tie.Start → Setup
 setup s =
-    setupAs s.args.grid s.args.climate s.args.covers.now s.args.direction.now s.args.cover.now s.args.group.now
+    setup_as s.args.grid s.args.climate s.args.covers.now s.args.direction.now s.args.cover.now s.args.group.now
     s.args.available.now
 
 abbrev state : tie.Start → State
-state s = stateAs s.args.soil.now s.args.snow.now s.args.past
+state s = state_as s.args.soil.now s.args.snow.now s.args.past
 
 abbrev results : tie.Start → Results
 results s =
-    resultsAs s.args.intercepted.now s.args.outflow.now s.args.evapotranspired.now s.args.recharged.now s.args.rejected.now
+    results_as s.args.intercepted.now s.args.outflow.now s.args.evapotranspired.now s.args.recharged.now s.args.rejected.now
 
 returns : tie.Need-returns
 returns c =
     let match = c.before.before in
     let s = start match.before in
-    lent-refuses (setup s) (state s) (results s) (dayAs s.args.day) _ _ match.before.lent-verdict.ensures
+    lent_refuses (setup s) (state s) (results s) (day_as s.args.day) _ _ match.before.lent-verdict.ensures
     (λ e. miss (1 ∷ []) 0 tt (rw e at match.match.keys2)) _ _ c.refused.ensures.0 c.refused.ensures.1
-    (ap (stateAs s.args.soil.now s.args.snow.now) c.refused.ensures.2)
+    (ap (state_as s.args.soil.now s.args.snow.now) c.refused.ensures.2)
 
 -- the stores and the results have one entry a cell
-each : (c : tie.After-enum-told) → let s = start c.before.before in oneEach (cells (setup s)) (lentLengths (state s) (results s)) ≡ true
-each c = lent-passes _ _ (accepted-back _ (sym c.enum_told.given.1 ∙ c.before.before.lent-verdict.ensures))
+each : (c : tie.After-enum-told) → let s = start c.before.before in one_each (cells (setup s)) (lent_lengths (state s) (results s)) ≡ true
+each c = lent_passes _ _ (accepted_back _ (sym c.enum_told.given.1 ∙ c.before.before.lent-verdict.ensures))
 
 returns-2 : tie.Need-returns-2
 returns-2 c =
     let match = c.before.before in
     let lent = match.before.before.before.before.before in
     let s = start lent.before.before in
-    survey-refuses (setup s) (state s) (results s) (dayAs s.args.day) (each lent) _ _ match.before.survey.ensures.verdict-is
+    survey_refuses (setup s) (state s) (results s) (day_as s.args.day) (each lent) _ _ match.before.survey.ensures.verdict_is
     (λ e. miss (1 ∷ []) 0 tt (rw e at match.match2.keys2)) _ _ c.refused2.ensures.0 c.refused2.ensures.1
-    (ap (stateAs s.args.soil.now s.args.snow.now) c.refused2.ensures.2)
+    (ap (state_as s.args.soil.now s.args.snow.now) c.refused2.ensures.2)
 
 abbrev slots : tie.After-survey → List ℕ
 slots c = c.survey.new.1.1.1.1.1.1.1.0
@@ -74,7 +74,7 @@ ready : (c : tie.After-enum-told3) → let lent = (surveyed c).before.before.bef
     DayReady (setup s) (slots (surveyed c)) (ways (surveyed c)) (order (surveyed c)) (state s) (results s)
 ready c =
     let lent = (surveyed c).before.before.before.before in
-    let passed = accepted-back _ (sym c.enum-told3.given.1 ∙ (surveyed c).survey.ensures.verdict-is) in
+    let passed = accepted_back _ (sym c.enum-told3.given.1 ∙ (surveyed c).survey.ensures.verdict_is) in
     record {
       passed = passed;
       slots₀ = replicate 4096 0;

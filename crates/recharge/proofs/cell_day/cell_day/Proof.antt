@@ -2,27 +2,27 @@
 use mathlib.Core.Path.{refl}
 use Prim.Native.Nat.{◌+◌, ◌-◌, ◌<◌}
 use native.Mathlib.Omega.{arith}
-use Rattle.weather.specs.Today.{todayAs}
-use Rattle.recharge.specs.Depths.{gatheredLimit}
-use Rattle.covers.specs.Grounds.{plotAs}
-use Rattle.recharge.specs.Soil.{soilDayAs}
-use Rattle.recharge.specs.CellDay.{ownBy, Fit32}
-use Rattle.recharge.proofs.FigureLaws.{stepped, steps-are, steps-fit}
+use Rattle.weather.specs.Today.{today_as}
+use Rattle.recharge.specs.Depths.{gathered_limit}
+use Rattle.covers.specs.Grounds.{plot_as}
+use Rattle.recharge.specs.Soil.{soil_day_as}
+use Rattle.recharge.specs.CellDay.{own_by, Fit32}
+use Rattle.recharge.proofs.FigureLaws.{stepped, steps_are, steps_fit}
 use borrow.Author.Rules.{rules}
 use Rattle.recharge.proofs.cell_day.cell_day.Statement.{statement}
 use Rattle.recharge.proofs.cell_day.cell_day.Tie as tie
 
-wet : (c : tie.After-struct-known5) → let a = c.before.before.before.before.before.before.args in a.plot.rain.0 + c.before.before.before.melt.result.0 + a.arrived.0 < gatheredLimit
-unfolding ownBy
+wet : (c : tie.After-struct-known5) → let a = c.before.before.before.before.before.before.args in a.plot.rain.0 + c.before.before.before.melt.result.0 + a.arrived.0 < gathered_limit
+unfolding own_by
 wet c = omega (arith, c.before.before.before.melt.ensures, c.before.before.before.before.before.before.requires.wet)
 
 fits : (c : tie.After-runs-on)
     → let a = c.before.before.before.before.before.before.before.before.before.before.args in
-    Fit32 (stepped (plotAs a.plot) (c.before.before.before.runs-off.result.0 + c.runs_on.result.0) (soilDayAs c.before.soil-day.result) (a.snow.0 + a.plot.snowfall.0 - c.before.before.before.before.before.before.before.melt.result.0))
-fits c = steps-fit _ _ _ _ _ _ _ _ _ _ _ _ c.before.before.before.before.before.before.before.melt.ensures c.before.before.before.runs-off.ensures c.before.before.beyond.ensures c.before.soil-day.ensures c.runs_on.ensures refl c.before.before.before.before.before.before.before.before.before.before.requires
+    Fit32 (stepped (plot_as a.plot) (c.before.before.before.runs_off.result.0 + c.runs_on.result.0) (soil_day_as c.before.soil-day.result) (a.snow.0 + a.plot.snowfall.0 - c.before.before.before.before.before.before.before.melt.result.0))
+fits c = steps_fit _ _ _ _ _ _ _ _ _ _ _ _ c.before.before.before.before.before.before.before.melt.ensures c.before.before.before.runs_off.ensures c.before.before.beyond.ensures c.before.soil-day.ensures c.runs_on.ensures refl c.before.before.before.before.before.before.before.before.before.before.requires
 
 add-t15-2 : tie.Need-overflow-add-t15-2
-unfolding ownBy
+unfolding own_by
 add-t15-2 c = omega (arith, c.before.before.melt.ensures, c.before.before.before.before.before.requires.wet)
 
 add-t16 : tie.Need-overflow-add-t16
@@ -63,7 +63,7 @@ cast-t24 c = omega (arith, c.before.beyond2.ensures, (fits c.before.before.befor
 returns : tie.Need-returns
 returns c =
     let d = c.before.before.before.before.before.before.before.before.before.before in
-    steps-are (todayAs d.before.before.before.before.before.before.before.before.before.before.args.today) _ _ _ _ _ _ _ _ _ _ _ d.before.before.before.before.before.before.before.melt.ensures d.before.before.before.runs-off.ensures d.before.before.beyond.ensures d.before.soil-day.ensures d.runs_on.ensures c.before.beyond2.ensures
+    steps_are (today_as d.before.before.before.before.before.before.before.before.before.before.args.today) _ _ _ _ _ _ _ _ _ _ _ d.before.before.before.before.before.before.before.melt.ensures d.before.before.before.runs_off.ensures d.before.before.beyond.ensures d.before.soil-day.ensures d.runs_on.ensures c.before.beyond2.ensures
 
 pub cell-day-spec : {M : Type 1} → statement M
 cell-day-spec =

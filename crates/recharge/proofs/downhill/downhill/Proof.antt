@@ -3,18 +3,18 @@ use mathlib.Core.Path.{refl, sym, ◌∙◌}
 use Prim.Native.Nat.{◌-◌, ◌<◌}
 use native.Mathlib.Omega.{arith}
 use lib.ListN.{length}
-use Rattle.weather.specs.Today.{todayAs}
-use Rattle.recharge.specs.Downhill.{slicesOf, Sized}
-use Rattle.records.specs.Answers.{totalsAs}
-use Rattle.recharge.proofs.DownhillLaws.{Pass, pass-none, pass-sized, pass-room, pass-end, pass-inside, pass-small, pass-lent, pass_fits, pass-more}
+use Rattle.weather.specs.Today.{today_as}
+use Rattle.recharge.specs.Downhill.{slices_of, Sized}
+use Rattle.records.specs.Answers.{totals_as}
+use Rattle.recharge.proofs.DownhillLaws.{Pass, pass_none, pass_sized, pass_room, pass_end, pass_inside, pass_small, pass_lent, pass_fits, pass_more}
 use borrow.Author.Rules.{rules}
 use Rattle.recharge.proofs.downhill.downhill.Statement.{statement}
 use Rattle.recharge.proofs.downhill.downhill.Tie as tie
 
 abbrev invariant-loop : tie.invariant-loop
 invariant-loop today plots slots ways order available soil₀ snow₀ intercepted₀ outflow₀ evapotranspired₀ recharged₀ rejected₀ n gross f arrived₀ totals₀ turn₀ soil snow intercepted outflow evapotranspired recharged rejected arrived totals turn =
-    Pass (todayAs today) plots slots ways order available (slicesOf soil₀ snow₀ intercepted₀ outflow₀ evapotranspired₀ recharged₀ rejected₀) turn (totalsAs totals) f arrived
-    (slicesOf soil snow intercepted outflow evapotranspired recharged rejected)
+    Pass (today_as today) plots slots ways order available (slices_of soil₀ snow₀ intercepted₀ outflow₀ evapotranspired₀ recharged₀ rejected₀) turn (totals_as totals) f arrived
+    (slices_of soil snow intercepted outflow evapotranspired recharged rejected)
 
 abbrev decreases-loop : tie.decreases-loop
 decreases-loop today plots slots ways order available soil₀ snow₀ intercepted₀ outflow₀ evapotranspired₀ recharged₀ rejected₀ n gross f arrived₀ totals₀ turn₀ soil snow intercepted outflow evapotranspired recharged rejected arrived totals turn =
@@ -32,17 +32,17 @@ abbrev turned : tie.After-add-cell invariant-loop decreases-loop → tie.After-i
 turned c = c.before.before.before.before.before.before.before.before.before.before.before
 
 small : (c : tie.After-index-of invariant-loop decreases-loop) → c.index_of.result < 4096
-small c = pass-small c.before.before.before.loop.invariant c.before.before.loop-test.true _ c.index_of.ensures
+small c = pass_small c.before.before.before.loop.invariant c.before.before.loop-test.true _ c.index_of.ensures
 
 -- one entry a cell
 sized : (c : tie.After-add-cell invariant-loop decreases-loop)
     → let l = (turned c).before.before.before in
     Sized (length (lent l).args.available.now)
-    (slicesOf l.loop.soil l.loop.snow l.loop.intercepted l.loop.outflow l.loop.evapotranspired l.loop.recharged l.loop.rejected)
-sized c = pass-sized (turned c).before.before.before.loop.invariant
+    (slices_of l.loop.soil l.loop.snow l.loop.intercepted l.loop.outflow l.loop.evapotranspired l.loop.recharged l.loop.rejected)
+sized c = pass_sized (turned c).before.before.before.loop.invariant
 
 inside : (c : tie.After-add-cell invariant-loop decreases-loop) → (turned c).index_of.result < length (lent (turned c).before.before.before).args.available.now
-inside c = let p = turned c in pass-inside p.before.before.before.loop.inv p.before.before.loop-test.taken _ p.index_of.ensures
+inside c = let p = turned c in pass_inside p.before.before.before.loop.inv p.before.before.loop-test.taken _ p.index_of.ensures
 
 retention-requires : tie.Need-retention-requires invariant-loop decreases-loop
 retention-requires c κs = search rules
@@ -51,7 +51,7 @@ none-requires : tie.Need-none-requires invariant-loop decreases-loop
 none-requires c κs = search rules
 
 loop-holds : tie.Need-loop-init invariant-loop decreases-loop
-loop-holds c = pass-none (start c).requires _ c.none.ensures _ c.before.retention.ensures
+loop-holds c = pass_none (start c).requires _ c.none.ensures _ c.before.retention.ensures
 
 mul-index-of : tie.Need-overflow-mul-index-of invariant-loop decreases-loop
 mul-index-of c = omega (arith, c.loop-test.true, c.before.loop.invariant.ready.pointing.most)
@@ -69,7 +69,7 @@ element-copy-out-add-cell : tie.Need-element-copy-out-add-cell invariant-loop de
 element-copy-out-add-cell c = omega (arith, small c)
 
 day-at-requires : tie.Need-day-at-requires invariant-loop decreases-loop
-day-at-requires c κs = pass-lent c.before.before.before.before.before.before.before.before.loop.invariant c.before.before.before.before.before.before.before.loop-test.true _ c.before.before.before.before.before.index_of.ensures
+day-at-requires c κs = pass_lent c.before.before.before.before.before.before.before.before.loop.invariant c.before.before.before.before.before.before.before.loop-test.true _ c.before.before.before.before.before.index_of.ensures
 
 hand-on-requires : tie.Need-hand-on-requires invariant-loop decreases-loop
 hand-on-requires c κs =
@@ -83,7 +83,7 @@ gone-from-requires : tie.Need-gone-from-requires invariant-loop decreases-loop
 gone-from-requires c κs = search rules
 
 add-cell-requires : tie.Need-add-cell-requires invariant-loop decreases-loop
-add-cell-requires c κs = let p = c.before.before.before.before.before.before.before.before.before.before.before.before.before.loop.invariant in (pass-room p, p.ready.gross)
+add-cell-requires c κs = let p = c.before.before.before.before.before.before.before.before.before.before.before.before.before.loop.invariant in (pass_room p, p.ready.gross)
 
 mul-soil : tie.Need-overflow-mul-soil invariant-loop decreases-loop
 mul-soil c = omega (arith, small (turned c))
@@ -136,32 +136,32 @@ loop-less c = omega (arith, (turned c).before.before.loop-test.true)
 loop-again : tie.Need-loop-preserved invariant-loop decreases-loop
 loop-again c =
     let p = turned c in
-    pass-more p.before.before.before.loop.inv p.before.before.loop-test.taken _ p.index_of.ensures _ c.before.before.before.before.before.day-at.ensures _ _ _ _ c.add-cell.ensures
+    pass_more p.before.before.before.loop.inv p.before.before.loop-test.taken _ p.index_of.ensures _ c.before.before.before.before.before.day-at.ensures _ _ _ _ c.add-cell.ensures
     c.before.before.left_in.ensures c.before.gone-from.ensures c.before.before.before.hand_on.ensures
 
 same_length : tie.Need-same-length invariant-loop decreases-loop
-same_length c = let p = c.before.loop.invariant in (pass-sized p).soil ∙ sym p.ready.sized.soil
+same_length c = let p = c.before.loop.invariant in (pass_sized p).soil ∙ sym p.ready.sized.soil
 
 same-length-2 : tie.Need-same-length-2 invariant-loop decreases-loop
-same-length-2 c = let p = c.before.loop.invariant in (pass-sized p).snow ∙ sym p.ready.sized.snow
+same-length-2 c = let p = c.before.loop.invariant in (pass_sized p).snow ∙ sym p.ready.sized.snow
 
 same-length-3 : tie.Need-same-length-3 invariant-loop decreases-loop
-same-length-3 c = let p = c.before.loop.invariant in (pass-sized p).intercepted ∙ sym p.ready.sized.intercepted
+same-length-3 c = let p = c.before.loop.invariant in (pass_sized p).intercepted ∙ sym p.ready.sized.intercepted
 
 same-length-4 : tie.Need-same-length-4 invariant-loop decreases-loop
-same-length-4 c = let p = c.before.loop.invariant in (pass-sized p).outflow ∙ sym p.ready.sized.outflow
+same-length-4 c = let p = c.before.loop.invariant in (pass_sized p).outflow ∙ sym p.ready.sized.outflow
 
 same-length-5 : tie.Need-same-length-5 invariant-loop decreases-loop
-same-length-5 c = let p = c.before.loop.invariant in (pass-sized p).evapotranspired ∙ sym p.ready.sized.evapotranspired
+same-length-5 c = let p = c.before.loop.invariant in (pass_sized p).evapotranspired ∙ sym p.ready.sized.evapotranspired
 
 same-length-6 : tie.Need-same-length-6 invariant-loop decreases-loop
-same-length-6 c = let p = c.before.loop.invariant in (pass-sized p).recharged ∙ sym p.ready.sized.recharged
+same-length-6 c = let p = c.before.loop.invariant in (pass_sized p).recharged ∙ sym p.ready.sized.recharged
 
 same-length-7 : tie.Need-same-length-7 invariant-loop decreases-loop
-same-length-7 c = let p = c.before.loop.invariant in (pass-sized p).rejected ∙ sym p.ready.sized.rejected
+same-length-7 c = let p = c.before.loop.invariant in (pass_sized p).rejected ∙ sym p.ready.sized.rejected
 
 returns : tie.Need-returns invariant-loop decreases-loop
-returns c = pass-end c.before.loop.invariant _ refl c.loop-test.false
+returns c = pass_end c.before.loop.invariant _ refl c.loop-test.false
 
 pub downhill-spec : {M : Type 1} → statement M
 downhill-spec =

@@ -6,10 +6,10 @@ use native.Mathlib.Omega.{arith}
 use lib.ListN.{get_or}
 use borrow.Author.Rules.{rules}
 use Rattle.paper.specs.Retention.{F}
-use Rattle.paper.proofs.RetentionLaws.{F-most}
+use Rattle.paper.proofs.RetentionLaws.{F_most}
 use Rattle.retention.specs.Retention.{place_of}
 use Rattle.retention.proofs.RetentionTable.{table_at}
-use Rattle.recharge.proofs.LossRoom.{knot-passed, Inside, inside, Past, past}
+use Rattle.recharge.proofs.LossRoom.{knot_passed, Inside, inside, Past, past}
 use Rattle.recharge.proofs.loss.share_lost.Statement.{statement}
 use Rattle.recharge.proofs.loss.share_lost.Tie as tie
 
@@ -30,7 +30,7 @@ here c =
     ∙ ap (λ (i : ℕ). F (min i 2048)) k.ensures
 
 top : (c : tie.After-wide2) → c.wide2.result ≤ 1048576
-top c = rw (here c) (F-most _)
+top c = rw (here c) (F_most _)
 
 between : (c : tie.After-wide2) → c.before.before.index_of.result < 2048 → Inside (C c) (d c) c.wide2.result c.before.before.before.wide.result
 between c low =
@@ -52,10 +52,10 @@ div-k : tie.Need-nonzero-div-k
 div-k c = search rules
 
 mul_wide : tie.Need-overflow-mul-wide
-mul_wide c = omega (arith, (knot-passed c.before.args.capacity.0 c.before.args.shortfall.0 c.before.requires.2).1)
+mul_wide c = omega (arith, (knot_passed c.before.args.capacity.0 c.before.args.shortfall.0 c.before.requires.2).1)
 
 sub_wide : tie.Need-overflow-sub-wide
-sub_wide c = (knot-passed c.before.args.capacity.0 c.before.args.shortfall.0 c.before.requires.2).0
+sub_wide c = (knot_passed c.before.args.capacity.0 c.before.args.shortfall.0 c.before.requires.2).0
 
 wide-requires : tie.Need-wide-requires
 wide-requires c κs = search rules

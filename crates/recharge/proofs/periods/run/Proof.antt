@@ -11,25 +11,25 @@ use borrow.Author.Rules.{rules}
 use Rattle.paper.specs.Setup.{Setup, cells}
 use Rattle.paper.specs.State.{State}
 use Rattle.paper.specs.Day.{Results, Outcome}
-use Rattle.paper.specs.Period.{freshRun, outcomeOn}
-use Rattle.paper.proofs.PeriodLaws.{few-days}
-use Rattle.records.specs.Grids.{setupAs}
-use Rattle.records.specs.Past.{stateAs}
-use Rattle.records.specs.Days.{dayAs}
-use Rattle.records.specs.Verdicts.{verdictAs}
-use Rattle.records.specs.Answers.{totalsAs, resultsAs, outcomeAs}
+use Rattle.paper.specs.Period.{fresh_run, outcome_on}
+use Rattle.paper.proofs.PeriodLaws.{few_days}
+use Rattle.records.specs.Grids.{setup_as}
+use Rattle.records.specs.Past.{state_as}
+use Rattle.records.specs.Days.{day_as}
+use Rattle.records.specs.Verdicts.{verdict_as}
+use Rattle.records.specs.Answers.{totals_as, results_as, outcome_as}
 use Rattle.records.proofs.FrontLaws.{parts, Room, after, left}
-use Rattle.survey.proofs.MapLaws.{sound-setup, waters-each}
-use Rattle.daybook.specs.Days.{dayIn}
+use Rattle.survey.proofs.MapLaws.{sound_setup, waters_each}
+use Rattle.daybook.specs.Days.{day_in}
 use Rattle.recharge.specs.Surveyed.{DayReady}
 use Rattle.recharge.specs.Period.{DayAdded}
-use Rattle.recharge.proofs.PeriodLaws.{Underway, fresh-soils, fresh-snows, underway-first, each, outcome-is, addable, underway-next, refused-ends, all-ended}
+use Rattle.recharge.proofs.PeriodLaws.{Underway, fresh_soils, fresh_snows, underway_first, each, outcome_is, addable, underway_next, refused_ends, all_ended}
 use Rattle.recharge.proofs.periods.run.Statement.{statement}
 use Rattle.recharge.proofs.periods.run.Tie as tie
 
 abbrev invariant-loop : tie.invariant-loop
 invariant-loop grid climate covers direction cover group available days soil₀ snow₀ sums₀ totals₀ slots ways order n count intercepted₀ outflow₀ evapotranspired₀ recharged₀ rejected₀ past₀ k₀ soil snow sums totals intercepted outflow evapotranspired recharged rejected past k =
-    Underway (setupAs grid climate covers direction cover group available) days totals₀ (stateAs soil snow past) sums totals
+    Underway (setup_as grid climate covers direction cover group available) days totals₀ (state_as soil snow past) sums totals
     intercepted outflow evapotranspired recharged rejected k
 
 abbrev decreases-loop : tie.decreases-loop
@@ -55,11 +55,11 @@ begin l = start (chart l)
 -- what was handed over, as the paper's, and where the run stands
 abbrev setup : tie.Start invariant-loop decreases-loop → Setup
 setup s =
-    setupAs s.args.grid s.args.climate s.args.covers.now s.args.direction.now s.args.cover.now s.args.group.now
+    setup_as s.args.grid s.args.climate s.args.covers.now s.args.direction.now s.args.cover.now s.args.group.now
     s.args.available.now
 
 abbrev state : tie.At-loop invariant-loop decreases-loop → State
-state l = stateAs l.loop.soil l.loop.snow l.loop.past
+state l = state_as l.loop.soil l.loop.snow l.loop.past
 
 abbrev width : tie.Start invariant-loop decreases-loop → ℕ
 width s = length s.args.available.now
@@ -68,10 +68,10 @@ abbrev results : tie.At-loop invariant-loop decreases-loop → Results
 results l = parts (width (begin l)) l.loop.intercepted l.loop.outflow l.loop.evapotranspired l.loop.recharged l.loop.rejected
 
 wet : (s : tie.Start invariant-loop decreases-loop) → width s ≡ cells (setup s)
-wet s = waters-each (setup s) s.requires.passed
+wet s = waters_each (setup s) s.requires.passed
 
 few : (s : tie.Start invariant-loop decreases-loop) → cells (setup s) ≤ 4096
-few s = (sound-setup (setup s) s.requires.passed).charted.few
+few s = (sound_setup (setup s) s.requires.passed).charted.few
 
 ready : (l : tie.At-loop invariant-loop decreases-loop) → let c = (chart l).survey.new in
     DayReady (setup (begin l)) c.1.1.1.1.1.1.1.0 c.1.1.1.1.1.1.1.1.0 c.1.1.1.1.1.1.1.1.1.0 (state l) (results l)
@@ -87,21 +87,21 @@ ready l =
 
 -- what a day left: the stores and the results, and the arrays with those results at their fronts
 abbrev state' : tie.After-surveyed-day invariant-loop decreases-loop → State
-state' c = stateAs c.surveyed-day.new.1.1.1.1.1.1.1.0 c.surveyed-day.new.1.1.1.1.1.1.1.1.0 c.surveyed-day.result.past
+state' c = state_as c.surveyed-day.new.1.1.1.1.1.1.1.0 c.surveyed-day.new.1.1.1.1.1.1.1.1.0 c.surveyed-day.result.past
 
 abbrev part : tie.After-surveyed-day invariant-loop decreases-loop → Results
 part c =
     let new = c.surveyed-day.new.1.1.1.1.1.1.1.1.1 in
-    resultsAs new.0 new.1.0 new.1.1.0 new.1.1.1.0 new.1.1.1.1.0
+    results_as new.0 new.1.0 new.1.1.0 new.1.1.1.0 new.1.1.1.1.0
 
 abbrev out : tie.After-surveyed-day invariant-loop decreases-loop → Outcome
-out c = outcomeAs c.surveyed-day.result c.surveyed-day.new.1.1.1.1.1.1.1.0 c.surveyed-day.new.1.1.1.1.1.1.1.1.0 (part c)
+out c = outcome_as c.surveyed-day.result c.surveyed-day.new.1.1.1.1.1.1.1.0 c.surveyed-day.new.1.1.1.1.1.1.1.1.0 (part c)
 
 abbrev arrays : tie.After-surveyed-day invariant-loop decreases-loop → Results
 arrays c =
     let l = head (date c) in
     let n = width (begin l) in
-    resultsAs (after n l.loop.intercepted (part c).intercepted) (after n l.loop.outflow (part c).outflow)
+    results_as (after n l.loop.intercepted (part c).intercepted) (after n l.loop.outflow (part c).outflow)
     (after n l.loop.evapotranspired (part c).evapotranspired) (after n l.loop.recharged (part c).recharged)
     (after n l.loop.rejected (part c).rejected)
 
@@ -117,19 +117,19 @@ held c =
 
 -- the day is the run's, and so is its outcome
 on : (c : tie.After-surveyed-day invariant-loop decreases-loop) → let l = head (date c) in let s = begin l in
-    out c ≡ outcomeOn (setup s) (freshRun (setup s)) (dayIn s.args.days.now) l.loop.k
+    out c ≡ outcome_on (setup s) (fresh_run (setup s)) (day_in s.args.days.now) l.loop.k
 on c =
     let l = head (date c) in
     let s = begin l in
-    outcome-is (setup s) s.args.days.now s.args.totals.now (state l) _ _ _ _ _ _ _ l.loop.k l.loop.inv (wet s)
-    (dayAs (date c).day-at.result) (date c).day-at.ensures (out c)
+    outcome_is (setup s) s.args.days.now s.args.totals.now (state l) _ _ _ _ _ _ _ l.loop.k l.loop.inv (wet s)
+    (day_as (date c).day-at.result) (date c).day-at.ensures (out c)
     (c.surveyed-day.ensures.is s.args.direction.now s.args.cover.now s.args.group.now (ready l))
 
 loop-holds : tie.Need-loop-init invariant-loop decreases-loop
 loop-holds c =
     let cleared = c.before.before in
     let s = start cleared.before.before in
-    underway-first (setup s) s.args.days.now (stateAs s.args.soil.now s.args.snow.now s.args.past) s.args.sums.now s.args.totals.now
+    underway_first (setup s) s.args.days.now (state_as s.args.soil.now s.args.snow.now s.args.past) s.args.sums.now s.args.totals.now
     s.pre (wet s) (few s) _ cleared.clear.ensures
 
 array-borrow-prefix-intercepted : tie.Need-array-borrow-prefix-intercepted invariant-loop decreases-loop
@@ -172,18 +172,18 @@ surveyed-day-requires c κs =
 same_length : tie.Need-same-length invariant-loop decreases-loop
 same_length c =
     let day = c.before.before.before.before.before.before.before.before.before.before.before.before in
-    day.surveyed-day.auto.1.1.1.1.1.1.1.0 ∙ (head (date day)).loop.inv.soils ∙ sym (fresh-soils _ _ _ _ _ (begin (head (date day))).pre)
+    day.surveyed-day.auto.1.1.1.1.1.1.1.0 ∙ (head (date day)).loop.inv.soils ∙ sym (fresh_soils _ _ _ _ _ (begin (head (date day))).pre)
 
 same-length-2 : tie.Need-same-length-2 invariant-loop decreases-loop
 same-length-2 c =
     let day = c.before.before.before.before.before.before.before.before.before.before.before.before in
-    day.surveyed-day.auto.1.1.1.1.1.1.1.1.0 ∙ (head (date day)).loop.inv.snows ∙ sym (fresh-snows _ _ _ _ _ (begin (head (date day))).pre)
+    day.surveyed-day.auto.1.1.1.1.1.1.1.1.0 ∙ (head (date day)).loop.inv.snows ∙ sym (fresh_snows _ _ _ _ _ (begin (head (date day))).pre)
 
 same-length-3 : tie.Need-same-length-3 invariant-loop decreases-loop
-same-length-3 c = let l = head (date c.before.before.before.before.before.before.before.before.before.before.before.before) in l.loop.inv.sums-are.sized ∙ sym (begin l).pre.sized
+same-length-3 c = let l = head (date c.before.before.before.before.before.before.before.before.before.before.before.before) in l.loop.inv.sums_are.sized ∙ sym (begin l).pre.sized
 
 same-length-4 : tie.Need-same-length-4 invariant-loop decreases-loop
-same-length-4 c = let l = head (date c.before.before.before.before.before.before.before.before.before.before.before.before) in l.loop.inv.totals-sized ∙ sym (begin l).pre.room
+same-length-4 c = let l = head (date c.before.before.before.before.before.before.before.before.before.before.before.before) in l.loop.inv.totals_sized ∙ sym (begin l).pre.room
 
 returns : tie.Need-returns invariant-loop decreases-loop
 returns c =
@@ -191,7 +191,7 @@ returns c =
     let day = c.before.before.before.before.before.before.before.before.before.before.before.before in
     let l = head (date day) in
     let s = begin l in
-    refused-ends (setup s) s.args.days.now s.args.totals.now (state l) _ _ _ _ _ _ _ l.loop.k l.loop.inv (wet s) (out day) (on day)
+    refused_ends (setup s) s.args.days.now s.args.totals.now (state l) _ _ _ _ _ _ _ l.loop.k l.loop.inv (wet s) (out day) (on day)
     _ refl (λ e. miss (1 ∷ []) 0 tt (rw e at match.match.keys2)) (date day).before.loop-test.true _ _ _ refl
 
 array-share-prefix-intercepted : tie.Need-array-share-prefix-intercepted invariant-loop decreases-loop
@@ -238,7 +238,7 @@ add-k : tie.Need-overflow-add-k invariant-loop decreases-loop
 add-k c =
     let l = head (date c.before.before.before.before.before.before.before.before.before.before.before.before.before.before.before.before.before.before.before.before.before.before.before.before.before) in
     let s = begin l in
-    record { fits = omega (arith, few-days (setup s) (freshRun (setup s)) (dayIn s.args.days.now) l.loop.k l.loop.inv.before) }
+    record { fits = omega (arith, few_days (setup s) (fresh_run (setup s)) (day_in s.args.days.now) l.loop.k l.loop.inv.before) }
 
 loop-less : tie.Need-loop-smaller invariant-loop decreases-loop
 loop-less c = omega (arith, (date c.before.before.before.before.before.before.before.before.before.before.before.before.before.before.before.before.before.before.before.before.before.before.before.before.before).before.loop-test.taken)
@@ -256,29 +256,29 @@ loop-again c =
     let l = head (date day) in
     let s = begin l in
     let kept = day.surveyed-day.auto.1.1.1.1.1.1.1 in
-    underway-next (setup s) s.args.days.now s.args.totals.now (state l) _ _ _ _ _ _ _ l.loop.k l.loop.inv (wet s) (out day) (on day)
-    (ap verdictAs told.enum_told.given.1) (date day).before.loop-test.true
+    underway_next (setup s) s.args.days.now s.args.totals.now (state l) _ _ _ _ _ _ _ l.loop.k l.loop.inv (wet s) (out day) (on day)
+    (ap verdict_as told.enum_told.given.1) (date day).before.loop-test.true
     (part day) refl (state' day) refl (kept.0 ∙ l.loop.inv.soils) (kept.1.0 ∙ l.loop.inv.snows)
-    _ (subst-results day c.before.before.before.before.before.before.add-day.ensures) _ (totalsAs day.surveyed-day.result.totals) refl c.before.before.put-totals.ensures
+    _ (subst-results day c.before.before.before.before.before.before.add-day.ensures) _ (totals_as day.surveyed-day.result.totals) refl c.before.before.put-totals.ensures
     _ _ _ _ _ (held day).0 (held day).1
 
 same-length-5 : tie.Need-same-length-5 invariant-loop decreases-loop
-same-length-5 c = c.before.loop.invariant.soils ∙ sym (fresh-soils _ _ _ _ _ (begin c.before).pre)
+same-length-5 c = c.before.loop.invariant.soils ∙ sym (fresh_soils _ _ _ _ _ (begin c.before).pre)
 
 same-length-6 : tie.Need-same-length-6 invariant-loop decreases-loop
-same-length-6 c = c.before.loop.invariant.snows ∙ sym (fresh-snows _ _ _ _ _ (begin c.before).pre)
+same-length-6 c = c.before.loop.invariant.snows ∙ sym (fresh_snows _ _ _ _ _ (begin c.before).pre)
 
 same-length-7 : tie.Need-same-length-7 invariant-loop decreases-loop
-same-length-7 c = c.before.loop.invariant.sums-are.sized ∙ sym (begin c.before).pre.sized
+same-length-7 c = c.before.loop.invariant.sums_are.sized ∙ sym (begin c.before).pre.sized
 
 same-length-8 : tie.Need-same-length-8 invariant-loop decreases-loop
-same-length-8 c = c.before.loop.invariant.totals-sized ∙ sym (begin c.before).pre.room
+same-length-8 c = c.before.loop.invariant.totals_sized ∙ sym (begin c.before).pre.room
 
 returns-2 : tie.Need-returns-2 invariant-loop decreases-loop
 returns-2 c =
     let l = c.before in
     let s = begin l in
-    all-ended (setup s) s.args.days.now s.args.totals.now (state l) _ _ _ _ _ _ _ l.loop.k l.loop.invariant (wet s) c.loop-test.false _ _ _ refl
+    all_ended (setup s) s.args.days.now s.args.totals.now (state l) _ _ _ _ _ _ _ l.loop.k l.loop.invariant (wet s) c.loop-test.false _ _ _ refl
 
 pub run_spec : {M : Type 1} → statement M
 run_spec =

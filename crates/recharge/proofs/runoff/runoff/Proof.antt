@@ -1,11 +1,11 @@
--- `runoff::runoff` meets its contract: the paper's law `runoff-64` is the code's formula, and with c ≤ 100 and w below the limit nothing in it passes 64 bits.
+-- `runoff::runoff` meets its contract: the paper's law `runoff_64` is the code's formula, and with c ≤ 100 and w below the limit nothing in it passes 64 bits.
 use mathlib.Core.Path.{sym}
 use Prim.Native.Nat.{ℕ, zero, suc, ◌-◌, ◌*◌, ◌/◌, ◌≤◌, ◌<◌, zero-le, suc-le-suc}
 use native.Mathlib.Nat.{le_trans, le_of_eq, not-suc-le-zero, mul-le-mul, div-le_self, zero-mul}
 use native.Mathlib.Omega.{arith}
 use borrow.Author.Rules.{rules}
 use Rattle.paper.specs.Runoff.{spread}
-use Rattle.paper.proofs.RunoffLaws.{runoff-none, runoff-64, runoff-64-room}
+use Rattle.paper.proofs.RunoffLaws.{runoff_none, runoff_64, runoff_64_room}
 use Rattle.recharge.proofs.runoff.runoff.Statement.{statement}
 use Rattle.recharge.proofs.runoff.runoff.Tie as tie
 
@@ -27,7 +27,7 @@ mul-if1 : tie.Need-overflow-mul-if1
 mul-if1 c = omega (arith, mul-le-mul c.requires.0 c.requires.1)
 
 returns : tie.Need-returns
-returns c = sym (runoff-none _ _ c.if1.true)
+returns c = sym (runoff_none _ _ c.if1.true)
 
 sub-k : tie.Need-overflow-sub-k
 sub-k c = search rules
@@ -64,14 +64,14 @@ mul-t11 c = search rules
 
 sub-t12 : tie.Need-overflow-sub-t12
 unfolding spread
-sub-t12 c = runoff-64-room c.before.args.c.0 c.before.args.w.0 c.before.requires.0 c.if1.false
+sub-t12 c = runoff_64_room c.before.args.c.0 c.before.args.w.0 c.before.requires.0 c.if1.false
 
 div-t13 : tie.Need-nonzero-div-t13
 div-t13 c = omega (arith, above-none _ _ c.if1.false)
 
 returns-2 : tie.Need-returns-2
 unfolding spread
-returns-2 c = sym (runoff-64 c.before.args.c.0 c.before.args.w.0 (above-none _ _ c.if1.false) c.before.requires.0 c.if1.false)
+returns-2 c = sym (runoff_64 c.before.args.c.0 c.before.args.w.0 (above-none _ _ c.if1.false) c.before.requires.0 c.if1.false)
 
 pub runoff-spec : {M : Type 1} → statement M
 runoff-spec =

@@ -3,8 +3,8 @@ use mathlib.Core.Path.{refl}
 use Prim.Native.Nat.{◌-◌}
 use native.Mathlib.Omega.{arith}
 use borrow.Author.Rules.{rules}
-use Rattle.paper.specs.Soil.{dryDay}
-use Rattle.paper.proofs.RetentionLaws.{loss-soil}
+use Rattle.paper.specs.Soil.{dry_day}
+use Rattle.paper.proofs.RetentionLaws.{loss_soil}
 use Rattle.recharge.proofs.soil.dry_day.Statement.{statement}
 use Rattle.recharge.proofs.soil.dry_day.Tie as tie
 
@@ -17,15 +17,15 @@ loss-requires c κs = search rules
 add-t11 : tie.Need-overflow-add-t11
 add-t11 c =
     let a = c.before.args in
-    omega (arith, c.loss.ensures, loss-soil a.capacity.0 a.soil.0 (a.potential.0 - a.infiltration.0))
+    omega (arith, c.loss.ensures, loss_soil a.capacity.0 a.soil.0 (a.potential.0 - a.infiltration.0))
 
 sub-t14 : tie.Need-overflow-sub-t14
 sub-t14 c =
     let a = c.before.args in
-    omega (arith, c.loss.ensures, loss-soil a.capacity.0 a.soil.0 (a.potential.0 - a.infiltration.0))
+    omega (arith, c.loss.ensures, loss_soil a.capacity.0 a.soil.0 (a.potential.0 - a.infiltration.0))
 
 returns : tie.Need-returns
-unfolding dryDay
+unfolding dry_day
 returns c = rw c.loss.ensures refl
 
 pub dry-day-spec : {M : Type 1} → statement M

@@ -1,7 +1,7 @@
 -- `soil::wet_day` meets its contract: the code's four figures are the paper's, one by one.
 use mathlib.Core.Path.{refl}
 use borrow.Author.Rules.{rules}
-use Rattle.paper.specs.Soil.{wetDay, excess}
+use Rattle.paper.specs.Soil.{wet_day, excess}
 use Rattle.recharge.proofs.soil.wet_day.Statement.{statement}
 use Rattle.recharge.proofs.soil.wet_day.Tie as tie
 
@@ -24,7 +24,7 @@ smaller-requires-2 : tie.Need-smaller-requires-2
 smaller-requires-2 c κs = search rules
 
 returns : tie.Need-returns
-unfolding wetDay excess
+unfolding wet_day excess
 returns c =
     rw (c.smaller2.ensures, c.before.beyond2.ensures, c.before.before.smaller.ensures, c.before.before.before.beyond.ensures) refl
 

@@ -9,18 +9,18 @@ use Rattle.paper.specs.Setup.{Setup}
 use Rattle.paper.specs.State.{State, Day}
 use Rattle.paper.specs.CellDay.{Today, today}
 use Rattle.paper.specs.Refusals.{accepted}
-use Rattle.paper.specs.Day.{Results, verdictOf}
-use Rattle.paper.proofs.DayLaws.{SoundDay, sound-day}
-use Rattle.records.specs.Grids.{setupAs}
-use Rattle.records.specs.Past.{pastAs, stateAs}
-use Rattle.records.specs.Days.{dayAs}
-use Rattle.records.specs.Verdicts.{verdictIn}
-use Rattle.records.specs.Answers.{resultsAs}
-use Rattle.records.proofs.VerdictLaws.{accepted-back}
-use Rattle.weather.specs.Today.{todayAs}
-use Rattle.recharge.specs.Downhill.{Slices, slicesOf}
+use Rattle.paper.specs.Day.{Results, verdict_of}
+use Rattle.paper.proofs.DayLaws.{SoundDay, sound_day}
+use Rattle.records.specs.Grids.{setup_as}
+use Rattle.records.specs.Past.{past_as, state_as}
+use Rattle.records.specs.Days.{day_as}
+use Rattle.records.specs.Verdicts.{verdict_in}
+use Rattle.records.specs.Answers.{results_as}
+use Rattle.records.proofs.VerdictLaws.{accepted_back}
+use Rattle.weather.specs.Today.{today_as}
+use Rattle.recharge.specs.Downhill.{Slices, slices_of}
 use Rattle.recharge.specs.Surveyed.{DayReady}
-use Rattle.recharge.proofs.AnswerLaws.{ready, accepted-answer, refused-answer}
+use Rattle.recharge.proofs.AnswerLaws.{ready, accepted_answer, refused_answer}
 use Rattle.recharge.proofs.SurveyedLaws as laws
 use Rattle.recharge.proofs.surveyed.surveyed_day.Statement.{statement}
 use Rattle.recharge.proofs.surveyed.surveyed_day.Tie as tie
@@ -30,31 +30,31 @@ abbrev start : tie.After-day-verdict → tie.Start
 start c = c.before.before.before.before.before.before.before.before.before.before.before.before.before.before
 
 abbrev state : tie.Start → State
-state s = stateAs s.args.soil.now s.args.snow.now s.args.past
+state s = state_as s.args.soil.now s.args.snow.now s.args.past
 
 abbrev results : tie.Start → Results
 results s =
-    resultsAs s.args.intercepted.now s.args.outflow.now s.args.evapotranspired.now s.args.recharged.now s.args.rejected.now
+    results_as s.args.intercepted.now s.args.outflow.now s.args.evapotranspired.now s.args.recharged.now s.args.rejected.now
 
 abbrev date : tie.Start → Day
-date s = dayAs s.args.day
+date s = day_as s.args.day
 
 -- the day's weather, and what the tests left of the array by slot
 abbrev weathered : tie.After-day-verdict → Today
-weathered c = todayAs c.before.before.before.before.today-of.result
+weathered c = today_as c.before.before.before.before.today-of.result
 
 abbrev plots : tie.After-day-verdict → List ℕ
 plots c = c.day-verdict.new.1.1.1.1.1.1.1.1.1.0
 
 module _ (direction cover group : List ℕ) where
   abbrev setup : tie.Start → Setup
-  setup s = setupAs s.args.grid s.args.climate s.args.covers.now direction cover group s.args.available.now
+  setup s = setup_as s.args.grid s.args.climate s.args.covers.now direction cover group s.args.available.now
 
   abbrev Ready : tie.Start → Type 0
   Ready s = DayReady (setup s) s.args.slots.now s.args.ways.now s.args.order.now (state s) (results s)
 
   told : (c : tie.After-day-verdict) → Ready (start c)
-      → c.day-verdict.result ≡ verdictIn (verdictOf (setup (start c)) (state (start c)) (results (start c)) (date (start c)))
+      → c.day-verdict.result ≡ verdict_in (verdict_of (setup (start c)) (state (start c)) (results (start c)) (date (start c)))
   told c ok =
       let s = start c in
       laws.told (setup s) (state s) (results s) (date s) _ _ _ ok (weathered c) c.before.before.before.before.today-of.ensures
@@ -68,11 +68,11 @@ module _ (direction cover group : List ℕ) where
     abbrev lent : tie.Start
     lent = start tested
 
-    passed : verdictOf (setup lent) (state lent) (results lent) (date lent) ≡ accepted
-    passed = accepted-back _ (sym c.enum_told.given.1 ∙ told tested ok)
+    passed : verdict_of (setup lent) (state lent) (results lent) (date lent) ≡ accepted
+    passed = accepted_back _ (sym c.enum_told.given.1 ∙ told tested ok)
 
     sound : SoundDay (setup lent) (state lent) (results lent) (date lent)
-    sound = sound-day (setup lent) (state lent) (results lent) (date lent) passed
+    sound = sound_day (setup lent) (state lent) (results lent) (date lent) passed
 
     weather : weathered tested ≡ today (setup lent).climate (state lent).past (date lent)
     weather =
@@ -86,8 +86,8 @@ returns c =
     record {
       is =
           λ direction cover group ok.
-          refused-answer (setup direction cover group s) (state s) (results s) (date s) _ _ _ _
-          c.refused.ensures.0 c.refused.ensures.1 (ap (stateAs s.args.soil.now s.args.snow.now) c.refused.ensures.2)
+          refused_answer (setup direction cover group s) (state s) (results s) (date s) _ _ _ _
+          c.refused.ensures.0 c.refused.ensures.1 (ap (state_as s.args.soil.now s.args.snow.now) c.refused.ensures.2)
           (told direction cover group tested ok) (λ e. miss (1 ∷ []) 0 tt (rw e at match.match.keys2));
     }
 
@@ -131,7 +131,7 @@ ran c = (soil c).before
 abbrev slices : tie.After-downhill → Slices
 slices c =
     let new = c.downhill.new.1.1.1.1.1.1 in
-    slicesOf new.0 new.1.0 new.1.1.0 new.1.1.1.0 new.1.1.1.1.0 new.1.1.1.1.1.0 new.1.1.1.1.1.1.0
+    slices_of new.0 new.1.0 new.1.1.0 new.1.1.1.0 new.1.1.1.1.0 new.1.1.1.1.1.0 new.1.1.1.1.1.1.0
 
 returns-2 : tie.Need-returns-2
 returns-2 c =
@@ -141,10 +141,10 @@ returns-2 c =
     record {
       is =
           λ direction cover group ok.
-          accepted-answer (setup direction cover group s) (state s) (results s) (date s) ok.slots₀ ok.ways₀ s.args.slots.now s.args.ways.now
+          accepted_answer (setup direction cover group s) (state s) (results s) (date s) ok.slots₀ ok.ways₀ s.args.slots.now s.args.ways.now
           s.args.order.now (weathered tested) (replicate 1536 0) (plots tested) (sound direction cover group told ok) ok.mapped
           (weather direction cover group told ok) tested.day-verdict.ensures.0 (passed direction cover group told ok) _ c.accepted.ensures.0 _
-          (ap pastAs c.accepted.ensures.2 ∙ c.before.after.ensures) _ _ c.accepted.ensures.1 (slices (ran c)) (ran c).downhill.ensures;
+          (ap past_as c.accepted.ensures.2 ∙ c.before.after.ensures) _ _ c.accepted.ensures.1 (slices (ran c)) (ran c).downhill.ensures;
     }
 
 same-length-3 : tie.Need-same-length-3

@@ -1,12 +1,12 @@
 -- `totals::add_cell` meets its contract: each total takes its figure of the cell, with room for it in 64 bits.
 use Prim.Native.Nat.{◌+◌}
-use Rattle.recharge.specs.Totals.{withCell}
+use Rattle.recharge.specs.Totals.{with_cell}
 use borrow.Author.Rules.{rules}
 use Rattle.recharge.proofs.totals.add_cell.Statement.{statement}
 use Rattle.recharge.proofs.totals.add_cell.Tie as tie
 
 returns : tie.Need-returns
-unfolding withCell
+unfolding with_cell
 returns c =
     let start = c.before.before.before.before.before.before.before.before.before.before in
     λ k. record {

@@ -2,7 +2,7 @@
 use mathlib.Core.Path.{refl}
 use native.Mathlib.Omega.{arith}
 use borrow.Author.Tests.{lt-ltb, le-ltb}
-use Rattle.theory.specs.Lists.{addedAt}
+use Rattle.theory.specs.Lists.{added_at}
 use borrow.Author.Rules.{rules}
 use Rattle.recharge.proofs.ways.hand_on.Statement.{statement}
 use Rattle.recharge.proofs.ways.hand_on.Tie as tie
@@ -13,14 +13,14 @@ add-arrived c =
     record { fits = rw at.index_of.ensures (omega (arith, at.before.requires.1 (omega (arith, at.index_of.ensures)))) }
 
 returns : tie.Need-returns
-unfolding addedAt
+unfolding added_at
 returns c =
     let at = c.before.before in
     let a = at.before.args in
     rw (at.index_of.ensures, lt-ltb a.way.0 a.n (omega (arith, at.index_of.ensures))) refl
 
 returns-2 : tie.Need-returns-2
-unfolding addedAt
+unfolding added_at
 returns-2 c =
     let at = c.before in
     let a = at.before.args in

@@ -1,7 +1,7 @@
 -- `knots::retained` meets its contract: the place that it reads is the knot's, in the rows or at the end.
 use native.Mathlib.Omega.{arith}
 use borrow.Author.Rules.{rules}
-use Rattle.retention.proofs.RetentionTable.{place-below, place-past}
+use Rattle.retention.proofs.RetentionTable.{place_below, place_past}
 use Rattle.retention.proofs.knots.retained.Statement.{statement}
 use Rattle.retention.proofs.knots.retained.Tie as tie
 
@@ -21,10 +21,10 @@ element-copy-out-result-2 : tie.Need-element-copy-out-result-2
 element-copy-out-result-2 c = search rules
 
 returns : tie.Need-returns
-returns c = rw (place-below c.before.before.args.k (omega (arith, c.before.if1.true)))
+returns c = rw (place_below c.before.before.args.k (omega (arith, c.before.if1.true)))
 
 returns-2 : tie.Need-returns-2
-returns-2 c = rw (place-past c.before.before.args.k (omega (arith, c.before.if1.false)))
+returns-2 c = rw (place_past c.before.before.args.k (omega (arith, c.before.if1.false)))
 
 pub retained-spec : {M : Type 1} → statement M
 retained-spec =

@@ -4,7 +4,7 @@ use mathlib.Core.Path.{◌≡◌}
 use Prim.Native.Nat.{◌-◌, ◌≤◌}
 use native.Mathlib.Omega.{arith}
 use borrow.Author.Rules.{rules}
-use Rattle.retention.proofs.RetentionTable.{Filled, filled_none, filled-kept, filled_next, filled-whole}
+use Rattle.retention.proofs.RetentionTable.{Filled, filled_none, filled_kept, filled_next, filled_whole}
 use Rattle.retention.proofs.knots.retention.Statement.{statement}
 use Rattle.retention.proofs.knots.retention.Tie as tie
 
@@ -45,7 +45,7 @@ loop-less : tie.Need-loop-smaller invariant-loop decreases-loop invariant-loop2 
 loop-less c = search rules
 
 loop-again : tie.Need-loop-preserved invariant-loop decreases-loop invariant-loop2 decreases-loop2
-loop-again c = (search rules, filled-kept _ _ _ c.loop-test.true c.before.before.before.kept-entries.ensures c.before.loop.invariant.1)
+loop-again c = (search rules, filled_kept _ _ _ c.loop-test.true c.before.before.before.kept-entries.ensures c.before.loop.invariant.1)
 
 loop2-holds : tie.Need-loop2-init invariant-loop decreases-loop invariant-loop2 decreases-loop2
 loop2-holds c = (search rules, c.before.loop.invariant.1)
@@ -89,7 +89,7 @@ returns : tie.Need-returns invariant-loop decreases-loop invariant-loop2 decreas
 returns c =
     let s = c.before.loop2 in
     let whole : s.i ≡ 2048 = omega (arith, s.invariant.1.far, c.loop2-test.false) in
-    filled-whole _ _ c.before.before.before.before.before.kept-entries.ensures (rw whole at s.invariant.1)
+    filled_whole _ _ c.before.before.before.before.before.kept-entries.ensures (rw whole at s.invariant.1)
 
 pub retention-spec : {M : Type 1} → statement M
 retention-spec =

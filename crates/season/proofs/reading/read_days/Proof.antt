@@ -5,7 +5,7 @@ use Prim.Native.Nat.{◌-◌}
 use native.Mathlib.Omega.{arith}
 use borrow.Author.Rules.{rules}
 use lib.ListN.{length}
-use Rattle.season.proofs.ReadingLaws.{Stands, stands-first, count-few, next-number, bad-end, all_read}
+use Rattle.season.proofs.ReadingLaws.{Stands, stands_first, count_few, next_number, bad_end, all_read}
 use Rattle.season.proofs.reading.read_days.Statement.{statement}
 use Rattle.season.proofs.reading.read_days.Tie as tie
 
@@ -16,7 +16,7 @@ abbrev decreases-loop : tie.decreases-loop
 decreases-loop text days₀ count₀ word₀ days count word = length text - word.start
 
 loop-holds : tie.Need-loop-init invariant-loop decreases-loop
-loop-holds c = stands-first _ _ _ _ c.next_word.ensures
+loop-holds c = stands_first _ _ _ _ c.next_word.ensures
 
 part-read-word-end : tie.Need-slice-bounds-read-word-end invariant-loop decreases-loop
 part-read-word-end c = c.before.before.loop.invariant.next.inside c.if1.true
@@ -28,12 +28,12 @@ returns : tie.Need-returns invariant-loop decreases-loop
 returns c =
     let read = c.before.before in
     let test = read.before.before in
-    bad-end _ _ _ _ _ _ test.before.before.loop.invariant test.if1.true (sym c.enum_told.given.1 ∙ read.read_word.ensures)
+    bad_end _ _ _ _ _ _ test.before.before.loop.invariant test.if1.true (sym c.enum_told.given.1 ∙ read.read_word.ensures)
 
 add-count : tie.Need-overflow-add-count invariant-loop decreases-loop
 add-count c =
     let test = c.before.before.before.before.before.before.before.before in
-    record { fits = omega (arith, count-few _ _ _ _ _ _ test.before.before.loop.invariant test.if1.true) }
+    record { fits = omega (arith, count_few _ _ _ _ _ _ test.before.before.loop.invariant test.if1.true) }
 
 loop-less : tie.Need-loop-smaller invariant-loop decreases-loop
 loop-less c =
@@ -45,7 +45,7 @@ loop-again c =
     let number = c.before.before.before.before.before in
     let read = number.before.before in
     let test = read.before.before in
-    next-number _ _ _ _ _ _ test.before.before.loop.invariant test.if1.true _ _ _ _
+    next_number _ _ _ _ _ _ test.before.before.loop.invariant test.if1.true _ _ _ _
     (sym number.number.given.1 ∙ read.read_word.ensures) c.before.before.store.ensures c.next-word2.ensures
 
 same-length-2 : tie.Need-same-length-2 invariant-loop decreases-loop

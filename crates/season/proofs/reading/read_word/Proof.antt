@@ -1,7 +1,7 @@
 -- `reading::read_word` meets its contract: each meaning of at most nine digits as a number of 32 bits with its sign.
 use mathlib.Core.Path.{sym, ◌∙◌}
 use borrow.Author.Rules.{rules}
-use Rattle.season.proofs.ReadingLaws.{plain_fits, plain-is, minus-near, minus-fits, minus_is, read-bad}
+use Rattle.season.proofs.ReadingLaws.{plain_fits, plain_is, minus_near, minus_fits, minus_is, read_bad}
 use Rattle.season.proofs.reading.read_word.Statement.{statement}
 use Rattle.season.proofs.reading.read_word.Tie as tie
 
@@ -11,22 +11,22 @@ cast-t6 c = let number = c.before.before.before in
 
 cast-t7 : tie.Need-overflow-cast-t7
 cast-t7 c = let number = c.before.before.before in
-    minus-near number.before.before.args.word.now _ (sym number.number.ensures ∙ c.before.n2.given.1)
+    minus_near number.before.before.args.word.now _ (sym number.number.ensures ∙ c.before.n2.given.1)
 
 sub-t8 : tie.Need-overflow-sub-t8
 sub-t8 c = let number = c.before.before.before in
-    minus-fits number.before.before.args.word.now _ (sym number.number.ensures ∙ c.before.n2.given.1)
+    minus_fits number.before.before.args.word.now _ (sym number.number.ensures ∙ c.before.n2.given.1)
 
 returns : tie.Need-returns
 returns c = let number = c.before.before.before in
-    plain-is number.before.before.args.word.now _ (sym number.number.ensures ∙ c.before.n.given.1)
+    plain_is number.before.before.args.word.now _ (sym number.number.ensures ∙ c.before.n.given.1)
 
 returns-2 : tie.Need-returns-2
 returns-2 c = let number = c.before.before.before in
     minus_is number.before.before.args.word.now _ (sym number.number.ensures ∙ c.before.n2.given.1)
 
 returns-3 : tie.Need-returns-3
-returns-3 c = read-bad _ (sym c.before.before.number.ensures ∙ c.enum_told.given.1)
+returns-3 c = read_bad _ (sym c.before.before.number.ensures ∙ c.enum_told.given.1)
 
 pub read-word-spec : {M : Type 1} → statement M
 read-word-spec =

@@ -2,7 +2,7 @@
 use mathlib.Core.Path.{sym}
 use borrow.Author.Rules.{rules}
 use lib.Seq.{length-take-le}
-use Rattle.intake.proofs.InputLaws.{read-within}
+use Rattle.intake.proofs.InputLaws.{read_within}
 use Rattle.setup.proofs.files.read.Statement.{statement}
 use Rattle.setup.proofs.files.read.Tie as tie
 
@@ -10,7 +10,7 @@ slice-aggregate-read-file : tie.Need-slice-aggregate-read-file
 slice-aggregate-read-file c = sym (length-take-le _ _ (search rules))
 
 returns-3 : tie.Need-returns-3
-returns-3 c = read-within _ _ _ c.before.before.before.before.before.before.read-file.ensures c.before.before.count.given.1
+returns-3 c = read_within _ _ _ c.before.before.before.before.before.before.read-file.ensures c.before.before.count.given.1
 
 pub read_spec : {M : Type 1} → statement M
 read_spec =

@@ -2,7 +2,7 @@
 -- end.
 use Prim.Native.Nat.{◌≤◌}
 use Rattle.text.specs.Run.{Complete}
-use Rattle.text.proofs.LayingLaws.{cells_fit, table-starts, table-ends, part_held, part-long}
+use Rattle.text.proofs.LayingLaws.{cells_fit, table_starts, table_ends, part_held, part_long}
 use Rattle.records.proofs.FrontLaws.{part_length}
 use borrow.Author.Rules.{rules}
 use Rattle.sheet.proofs.run.started.Statement.{statement}
@@ -22,37 +22,37 @@ few : (last : tie.After-climate-in) → (start last).args.layout.cells ≤ 4096
 few last = cells_fit _ _ (complete last)
 
 sub-worked : tie.Need-overflow-sub-worked
-sub-worked c = table-starts _ _ (complete c)
+sub-worked c = table_starts _ _ (complete c)
 
 part-worked-start : tie.Need-slice-bounds-worked-start
-part-worked-start c = table-starts _ _ (complete c)
+part-worked-start c = table_starts _ _ (complete c)
 
 part-worked-end : tie.Need-slice-bounds-worked-end
-part-worked-end c = table-ends _ _ (complete c)
+part-worked-end c = table_ends _ _ (complete c)
 
 array-share-prefix-direction : tie.Need-array-share-prefix-direction
 array-share-prefix-direction c = let last = c.before in part_held _ _ (complete last) _ _ (columns last).before.before.before.directions-in.ensures
 
 slice-aggregate-worked : tie.Need-slice-aggregate-worked
-slice-aggregate-worked c = let last = c.before.before in part-long _ _ (complete last) _ _ (columns last).before.before.before.directions-in.ensures
+slice-aggregate-worked c = let last = c.before.before in part_long _ _ (complete last) _ _ (columns last).before.before.before.directions-in.ensures
 
 array-share-prefix-cover : tie.Need-array-share-prefix-cover
 array-share-prefix-cover c = let last = c.before.before in part_held _ _ (complete last) _ _ (columns last).before.before.covers-in.ensures
 
 slice-aggregate-worked-2 : tie.Need-slice-aggregate-worked-2
-slice-aggregate-worked-2 c = let last = c.before.before.before in part-long _ _ (complete last) _ _ (columns last).before.before.covers-in.ensures
+slice-aggregate-worked-2 c = let last = c.before.before.before in part_long _ _ (complete last) _ _ (columns last).before.before.covers-in.ensures
 
 array-share-prefix-group : tie.Need-array-share-prefix-group
 array-share-prefix-group c = let last = c.before.before.before in part_held _ _ (complete last) _ _ (columns last).before.groups-in.ensures
 
 slice-aggregate-worked-3 : tie.Need-slice-aggregate-worked-3
-slice-aggregate-worked-3 c = let last = c.before.before.before.before in part-long _ _ (complete last) _ _ (columns last).before.groups-in.ensures
+slice-aggregate-worked-3 c = let last = c.before.before.before.before in part_long _ _ (complete last) _ _ (columns last).before.groups-in.ensures
 
 array-share-prefix-water : tie.Need-array-share-prefix-water
 array-share-prefix-water c = let last = c.before.before.before.before in part_held _ _ (complete last) _ _ (columns last).waters-in.ensures
 
 slice-aggregate-worked-4 : tie.Need-slice-aggregate-worked-4
-slice-aggregate-worked-4 c = let last = c.before.before.before.before.before in part-long _ _ (complete last) _ _ (columns last).waters-in.ensures
+slice-aggregate-worked-4 c = let last = c.before.before.before.before.before in part_long _ _ (complete last) _ _ (columns last).waters-in.ensures
 
 array-borrow-prefix-soil : tie.Need-array-borrow-prefix-soil
 array-borrow-prefix-soil c = few c.before.before.before.before.before

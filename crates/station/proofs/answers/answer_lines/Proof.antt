@@ -5,14 +5,14 @@ use Prim.Native.Nat.{ℕ, ◌-◌}
 use native.Mathlib.Omega.{arith}
 use borrow.Author.Rules.{rules}
 use lib.ListN.{length, length-replicate}
-use Rattle.lines.specs.Reading.{mostNumbers}
-use Rattle.words.proofs.WritingLaws.{put-length}
-use Rattle.station.proofs.AnswerLaws.{Answering, answering-first, answering-next, answering-end, few-lines}
+use Rattle.lines.specs.Reading.{most_numbers}
+use Rattle.words.proofs.WritingLaws.{put_length}
+use Rattle.station.proofs.AnswerLaws.{Answering, answering_first, answering_next, answering_end, few_lines}
 use Rattle.station.proofs.answers.answer_lines.Statement.{statement}
 use Rattle.station.proofs.answers.answer_lines.Tie as tie
 
 abbrev invariant-loop : tie.invariant-loop
-invariant-loop input output₀ numbers₀ at₀ number₀ from₀ output numbers at number from = Answering input output₀ output at number from × (length numbers ≡ mostNumbers)
+invariant-loop input output₀ numbers₀ at₀ number₀ from₀ output numbers at number from = Answering input output₀ output at number from × (length numbers ≡ most_numbers)
 
 abbrev decreases-loop : tie.decreases-loop
 decreases-loop input output₀ numbers₀ at₀ number₀ from₀ output numbers at number from = length input - from
@@ -25,7 +25,7 @@ abbrev start : tie.After-line-end invariant-loop decreases-loop → tie.Start in
 start c = c.before.before.before.before.before
 
 loop-holds : tie.Need-loop-init invariant-loop decreases-loop
-loop-holds c = (answering-first _ _, length-replicate {A = ℕ} 32768 0)
+loop-holds c = (answering_first _ _, length-replicate {A = ℕ} 32768 0)
 
 line-end-requires : tie.Need-line-end-requires invariant-loop decreases-loop
 line-end-requires c κs = search rules
@@ -48,7 +48,7 @@ answer-requires c κs = search rules
 add-number : tie.Need-overflow-add-number invariant-loop decreases-loop
 add-number c =
     let at = turn c in
-    omega (arith, few-lines _ _ _ _ _ _ (start at).pre at.before.before.loop.inv.0 _ at.line-end.ensures at.before.loop-test.taken)
+    omega (arith, few_lines _ _ _ _ _ _ (start at).pre at.before.before.loop.inv.0 _ at.line-end.ensures at.before.loop-test.taken)
 
 add-from : tie.Need-overflow-add-from invariant-loop decreases-loop
 add-from c = let at = turn c in omega (arith, at.line-end.ensures.inside at.before.loop-test.taken, (start at).pre)
@@ -60,16 +60,16 @@ loop-again : tie.Need-loop-preserved invariant-loop decreases-loop
 loop-again c =
     let at = turn c in
     let read = c.before.before.before.before in (
-      answering-next _ _ _ _ _ _ (start at).pre at.before.before.loop.inv.0 _ at.line-end.ensures at.before.loop-test.taken
+      answering_next _ _ _ _ _ _ (start at).pre at.before.before.loop.inv.0 _ at.line-end.ensures at.before.loop-test.taken
           (omega (arith, (start at).good)) (rw read.read-line.ensures.0 at c.before.before.answer.ensures),
       read.read-line.ensures.1,
     )
 
 same_length : tie.Need-same-length invariant-loop decreases-loop
-same_length c = put-length c.before.loop.invariant.0.put
+same_length c = put_length c.before.loop.invariant.0.put
 
 returns : tie.Need-returns invariant-loop decreases-loop
-returns c = answering-end _ _ _ _ _ _ c.before.before.before.before.requires c.before.loop.invariant.0 c.loop-test.false
+returns c = answering_end _ _ _ _ _ _ c.before.before.before.before.requires c.before.loop.invariant.0 c.loop-test.false
 
 pub answer-lines-spec : {M : Type 1} → statement M
 answer-lines-spec =

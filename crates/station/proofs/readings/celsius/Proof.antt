@@ -3,12 +3,12 @@ use mathlib.Core.Path.{ap}
 use borrow.Author.Rules.{rules}
 use lib.Ieee.{Float, of_bits, round}
 use Rattle.paper.specs.Radiation.{◌⊘◌, whole, decimal}
-use Rattle.station.specs.Readings.{celsiusOf}
+use Rattle.station.specs.Readings.{celsius_of}
 use Rattle.station.proofs.readings.celsius.Statement.{statement}
 use Rattle.station.proofs.readings.celsius.Tie as tie
 
 returns : tie.Need-returns
-unfolding celsiusOf whole decimal round of_bits
+unfolding celsius_of whole decimal round of_bits
 returns c = ap (λ (x : Float). x ⊘ whole 10) c.reading.ensures
 
 pub celsius-spec : {M : Type 1} → statement M

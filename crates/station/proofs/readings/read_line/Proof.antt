@@ -1,8 +1,8 @@
 -- `readings::read_line` meets its contract: the tests on the numbers that were read are those of the paper's form.
 use borrow.Author.Rules.{rules}
 use mathlib.Core.Path.{sym, ◌∙◌}
-use Rattle.theory.proofs.Cases.{cond-true, cond-false}
-use Rattle.station.proofs.LineLaws.{turc-line, jensen-haise-line, line-broken, line-whole, read_length}
+use Rattle.theory.proofs.Cases.{cond_true, cond_false}
+use Rattle.station.proofs.LineLaws.{turc_line_lem, jensen_haise_line_lem, line_broken, line_whole, read_length}
 use Rattle.station.proofs.readings.read_line.Statement.{statement}
 use Rattle.station.proofs.readings.read_line.Tie as tie
 
@@ -10,7 +10,7 @@ returns : tie.Need-returns
 returns c =
     let read = c.before.before in
     let lent = read.before.before.before in
-    (line-broken _ _ _ _ _ lent.requires read.read.ensures c.enum_told.given.1, read_length _ _ _ _ 0 lent.requires read.read.ensures)
+    (line_broken _ _ _ _ _ lent.requires read.read.ensures c.enum_told.given.1, read_length _ _ _ _ 0 lent.requires read.read.ensures)
 
 returns-2 : tie.Need-returns-2
 returns-2 c =
@@ -20,9 +20,9 @@ returns-2 c =
     let count = test.before.before.before in
     let read = count.before.before in
     let lent = read.before.before.before in (
-      turc-line _ _ _ mean.celsius.ensures radiation.reading.ensures c.reading2.ensures
-          ∙ sym (cond-true _ test.if1.true _ _)
-          ∙ line-whole _ _ _ _ _ lent.requires read.read.ensures count.count.given.1,
+      turc_line_lem _ _ _ mean.celsius.ensures radiation.reading.ensures c.reading2.ensures
+          ∙ sym (cond_true _ test.if1.true _ _)
+          ∙ line_whole _ _ _ _ _ lent.requires read.read.ensures count.count.given.1,
       read_length _ _ _ _ 0 lent.requires read.read.ensures,
     )
 
@@ -33,9 +33,9 @@ returns-3 c =
     let count = tests.before.before.before.before in
     let read = count.before.before in
     let lent = read.before.before.before in (
-      jensen-haise-line _ _ mean.celsius2.ensures c.reading3.ensures
-          ∙ sym (cond-false _ tests.before.if1.false _ _ ∙ cond-true _ tests.if2.true _ _)
-          ∙ line-whole _ _ _ _ _ lent.requires read.read.ensures count.count.given.1,
+      jensen_haise_line_lem _ _ mean.celsius2.ensures c.reading3.ensures
+          ∙ sym (cond_false _ tests.before.if1.false _ _ ∙ cond_true _ tests.if2.true _ _)
+          ∙ line_whole _ _ _ _ _ lent.requires read.read.ensures count.count.given.1,
       read_length _ _ _ _ 0 lent.requires read.read.ensures,
     )
 
@@ -45,8 +45,8 @@ returns-4 c =
     let count = tests.before.before.before in
     let read = count.before.before in
     let lent = read.before.before.before in (
-      sym (cond-false _ tests.if1.false _ _ ∙ cond-false _ c.if2.false _ _)
-          ∙ line-whole _ _ _ _ _ lent.requires read.read.ensures count.count.given.1,
+      sym (cond_false _ tests.if1.false _ _ ∙ cond_false _ c.if2.false _ _)
+          ∙ line_whole _ _ _ _ _ lent.requires read.read.ensures count.count.given.1,
       read_length _ _ _ _ 0 lent.requires read.read.ensures,
     )
 

@@ -7,19 +7,19 @@ use lib.ListN.{length}
 use borrow.Author.Rules.{rules}
 use borrow.Author.Tests.{not-true, not-false}
 use types.Run.{miss}
-use Rattle.paper.specs.Setup.{Setup, cells, gridFits}
-use Rattle.paper.specs.Refusals.{grid, lent, accepted, oneEach}
-use Rattle.paper.specs.Day.{checkOf}
-use Rattle.records.specs.Grids.{setupAs}
-use Rattle.records.proofs.VerdictLaws.{accepted-back}
-use Rattle.survey.proofs.CallLaws.{grid-bad, more-bad}
-use Rattle.stores.proofs.FreshLaws.{refused-fresh, survey-fresh, fill-ask, accepted-fresh}
+use Rattle.paper.specs.Setup.{Setup, cells, grid_fits}
+use Rattle.paper.specs.Refusals.{grid, lent, accepted, one_each}
+use Rattle.paper.specs.Day.{check_of}
+use Rattle.records.specs.Grids.{setup_as}
+use Rattle.records.proofs.VerdictLaws.{accepted_back}
+use Rattle.survey.proofs.CallLaws.{grid_bad, more_bad}
+use Rattle.stores.proofs.FreshLaws.{refused_fresh, survey_fresh, fill_ask, accepted_fresh}
 use Rattle.stores.proofs.fresh_states.fresh.Statement.{statement}
 use Rattle.stores.proofs.fresh_states.fresh.Tie as tie
 
 abbrev setup : tie.Start → Setup
 setup s =
-    setupAs s.args.grid s.args.climate s.args.covers.now s.args.direction.now s.args.cover.now s.args.group.now
+    setup_as s.args.grid s.args.climate s.args.covers.now s.args.direction.now s.args.cover.now s.args.group.now
     s.args.available.now
 
 abbrev stores : tie.Start → List ℕ
@@ -29,7 +29,7 @@ returns : tie.Need-returns
 returns c =
     let refused = c.before in
     let s = setup refused.before.before.before.before.before.before.before.before.before in
-    refused-fresh s _ _ grid _ _ _ (grid-bad s _ (sym refused.before.fits2.ensures ∙ not-true _ refused.if1.true))
+    refused_fresh s _ _ grid _ _ _ (grid_bad s _ (sym refused.before.fits2.ensures ∙ not-true _ refused.if1.true))
     c.begin.ensures.0 refl c.begin.ensures.1
 
 -- the grid fits
@@ -37,7 +37,7 @@ module _ (c : tie.Else1) where
   abbrev entry : tie.Start
   entry = c.before.before.before.before.before.before.before.before.before
 
-  fits : gridFits (setup entry).grid ≡ true
+  fits : grid_fits (setup entry).grid ≡ true
   fits = sym c.before.fits2.ensures ∙ not-false _ c.if1.false
 
 returns-2 : tie.Need-returns-2
@@ -45,9 +45,9 @@ returns-2 c =
     let refused = c.before in
     let counted = refused.before.before in
     let e = entry counted.before in
-    refused-fresh (setup e) _ _ lent _ _ _
-    (more-bad (setup e) _ (fits counted.before)
-    (ap (λ (n : ℕ). oneEach n (stores e)) (sym counted.cells.ensures) ∙ sym refused.before.stores-each.ensures ∙ not-true _ refused.if2.true))
+    refused_fresh (setup e) _ _ lent _ _ _
+    (more_bad (setup e) _ (fits counted.before)
+    (ap (λ (n : ℕ). one_each n (stores e)) (sym counted.cells.ensures) ∙ sym refused.before.stores-each.ensures ∙ not-true _ refused.if2.true))
     c.begin2.ensures.0 refl c.begin2.ensures.1
 
 -- and the stores have one entry a cell
@@ -55,9 +55,9 @@ module _ (c : tie.Else2) where
   abbrev start : tie.Start
   start = entry c.before.before.before
 
-  each : oneEach (cells (setup start)) (stores start) ≡ true
+  each : one_each (cells (setup start)) (stores start) ≡ true
   each =
-      ap (λ (n : ℕ). oneEach n (stores start)) (sym c.before.before.cells.ensures) ∙ sym c.before.stores-each.ensures
+      ap (λ (n : ℕ). one_each n (stores start)) (sym c.before.before.cells.ensures) ∙ sym c.before.stores-each.ensures
       ∙ not-false _ c.if2.false
 
 returns-3 : tie.Need-returns-3
@@ -65,7 +65,7 @@ returns-3 c =
     let match = c.before.before in
     let s = match.before in
     let e = s.before.before.before.before in
-    survey-fresh (setup (start e)) _ _ (each e) _ _ _ s.survey.ensures.verdict-is (λ q. miss (1 ∷ []) 0 tt (rw q at match.match.keys2))
+    survey_fresh (setup (start e)) _ _ (each e) _ _ _ s.survey.ensures.verdict_is (λ q. miss (1 ∷ []) 0 tt (rw q at match.match.keys2))
     c.begin3.ensures.0 c.begin3.ensures.1
 
 -- the setup passes
@@ -76,21 +76,21 @@ module _ (c : tie.After-enum-told) where
   abbrev tested : tie.Else2
   tested = surveyed.before.before.before.before
 
-  passed : checkOf (setup (start tested)) ≡ accepted
-  passed = accepted-back _ (sym c.enum_told.given.1 ∙ surveyed.survey.ensures.verdict-is)
+  passed : check_of (setup (start tested)) ≡ accepted
+  passed = accepted_back _ (sym c.enum_told.given.1 ∙ surveyed.survey.ensures.verdict_is)
 
 fill-requires : tie.Need-fill-requires
 fill-requires c κs =
     let t = c.before.before.before in
     let a = (start (tested t)).args in
-    fill-ask (setup (start (tested t))) a.soil.now a.snow.now (each (tested t)) (passed t) _ _ _ _ _
+    fill_ask (setup (start (tested t))) a.soil.now a.snow.now (each (tested t)) (passed t) _ _ _ _ _
     ((surveyed t).survey.ensures.mapped (passed t))
 
 returns-4 : tie.Need-returns-4
 returns-4 c =
     let filled = c.before.before.before.before.before in
     let t = filled.before.before.before.before in
-    accepted-fresh (setup (start (tested t))) _ _ (each (tested t)) (passed t) _ _ _ _ _ ((surveyed t).survey.ensures.mapped (passed t)) _ _ _ _ _
+    accepted_fresh (setup (start (tested t))) _ _ (each (tested t)) (passed t) _ _ _ _ _ ((surveyed t).survey.ensures.mapped (passed t)) _ _ _ _ _
     c.begin4.ensures.0 t.enum_told.given.1 c.begin4.ensures.1 filled.fill.ensures
 
 pub fresh-spec : {M : Type 1} → statement M

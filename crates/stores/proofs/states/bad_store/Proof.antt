@@ -6,14 +6,14 @@ use native.Mathlib.Nat.{not-suc-le-zero}
 use borrow.Author.Count.{below_more}
 use borrow.Author.Rules.{rules}
 use lib.ListN.{length}
-use Rattle.records.proofs.PlaceLaws.{PassedTo, found-place, no_place}
-use Rattle.stores.specs.States.{storesAt}
+use Rattle.records.proofs.PlaceLaws.{PassedTo, found_place, no_place}
+use Rattle.stores.specs.States.{stores_at}
 use Rattle.stores.proofs.states.bad_store.Statement.{statement}
 use Rattle.stores.proofs.states.bad_store.Tie as tie
 
 abbrev invariant-loop : tie.invariant-loop
 invariant-loop covers slots available soil snow roots n i₀ i =
-    (n ≡ length available) × (i ≤ n) × PassedTo (λ k. not (storesAt covers slots available soil snow k)) i
+    (n ≡ length available) × (i ≤ n) × PassedTo (λ k. not (stores_at covers slots available soil snow k)) i
 
 abbrev decreases-loop : tie.decreases-loop
 decreases-loop covers slots available soil snow roots n i₀ i = n - i
@@ -29,13 +29,13 @@ abbrev head : tie.After-stores-fit invariant-loop decreases-loop → tie.In-loop
 head c = c.before.before.before.before.before.before
 
 returns : tie.Need-returns invariant-loop decreases-loop
-unfolding storesAt
+unfolding stores_at
 returns c =
     let h = head c.before in
-    found-place _ _ _ h.before.loop.inv.2 h.loop-test.taken (ap not (sym c.before.stores-fit.ensures) ∙ c.if1.true)
+    found_place _ _ _ h.before.loop.inv.2 h.loop-test.taken (ap not (sym c.before.stores-fit.ensures) ∙ c.if1.true)
 
 loop-again : tie.Need-loop-preserved invariant-loop decreases-loop
-unfolding storesAt
+unfolding stores_at
 loop-again c =
     let h = head c.before in
     (search rules, search rules, below_more _ _ h.before.loop.inv.2 (ap not (sym c.before.stores-fit.ensures) ∙ c.if1.false))

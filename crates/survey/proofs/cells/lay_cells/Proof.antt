@@ -7,14 +7,14 @@ use native.Mathlib.Omega.{arith}
 use lib.ListN.{length, get_or}
 use borrow.Author.Rules.{rules}
 use borrow.Author.Tests.{eq-eqb}
-use Rattle.theory.proofs.ListLaws.{over-length, over-room}
-use Rattle.paper.specs.Covers.{entries, openOf}
-use Rattle.survey.specs.Order.{waitFor}
-use Rattle.survey.specs.Cells.{slot_at, wayFrom}
-use Rattle.records.proofs.PlaceLaws.{found-place, no_place}
+use Rattle.theory.proofs.ListLaws.{over_length, over_room}
+use Rattle.paper.specs.Covers.{entries, open_of}
+use Rattle.survey.specs.Order.{wait_for}
+use Rattle.survey.specs.Cells.{slot_at, way_from}
+use Rattle.records.proofs.PlaceLaws.{found_place, no_place}
 use Rattle.survey.proofs.CountLaws.{count_none, count_fits}
-use Rattle.survey.proofs.SlotLaws.{slot-below, whole-entry}
-use Rattle.survey.proofs.LayingLaws.{Laid, laid-bad, laid_none, laid-row, laid-down, laid-right}
+use Rattle.survey.proofs.SlotLaws.{slot_below, whole_entry}
+use Rattle.survey.proofs.LayingLaws.{Laid, laid_bad, laid_none, laid_row, laid_down, laid_right}
 use Rattle.survey.proofs.cells.lay_cells.Statement.{statement}
 use Rattle.survey.proofs.cells.lay_cells.Tie as tie
 
@@ -72,18 +72,18 @@ same_length : tie.Need-same-length invariant-loop decreases-loop
 same_length c =
     let h = head c.before in
     let p = (start h).pre in
-    ap length h.loop.inv.1.slotted ∙ over-length _ _ _ (omega arith)
+    ap length h.loop.inv.1.slotted ∙ over_length _ _ _ (omega arith)
 
 same-length-2 : tie.Need-same-length-2 invariant-loop decreases-loop
 same-length-2 c =
     let h = head c.before in
     let p = (start h).pre in
-    ap length h.loop.inv.1.laid ∙ over-length _ _ _ (omega arith)
+    ap length h.loop.inv.1.laid ∙ over_length _ _ _ (omega arith)
 
 returns : tie.Need-returns invariant-loop decreases-loop
 returns c =
-    laid-bad _ _ _ _ _ _ _ _ _
-    (found-place _ _ _ (head c.before).loop.inv.1.passed (omega arith) (eq-eqb _ _ (sym c.before.slot.ensures.0 ∙ c.if1.true)))
+    laid_bad _ _ _ _ _ _ _ _ _
+    (found_place _ _ _ (head c.before).loop.inv.1.passed (omega arith) (eq-eqb _ _ (sym c.before.slot.ensures.0 ∙ c.if1.true)))
 
 cast-slots : tie.Need-overflow-cast-slots invariant-loop decreases-loop
 cast-slots c = omega (arith, c.before.slot.ensures.1, c.if1.false)
@@ -92,14 +92,14 @@ slice-write-slots : tie.Need-slice-write-slots invariant-loop decreases-loop
 slice-write-slots c =
     let h = head c.before in
     let p = (start h).pre in
-    over-room _ _ _ _ h.loop.inv.1.slotted (omega arith)
+    over_room _ _ _ _ h.loop.inv.1.slotted (omega arith)
 
 -- the entry of the slot that was found stands in the table
 whole : (c : tie.Else1 invariant-loop decreases-loop) → 16 * (c.before.slot.result / 4) + 16 ≤ length (start (head c.before)).args.covers.now
 whole c =
     let s = start (head c.before) in
-    whole-entry s.args.covers.now c.before.slot.result
-    (slot-below _ _ _ _ _ (entries s.args.covers.now) c.before.slot.ensures.0 c.if1.false (s.pre.entered _))
+    whole_entry s.args.covers.now c.before.slot.result
+    (slot_below _ _ _ _ _ (entries s.args.covers.now) c.before.slot.ensures.0 c.if1.false (s.pre.entered _))
 
 mul-lake : tie.Need-overflow-mul-lake invariant-loop decreases-loop
 mul-lake c = omega (arith, whole c)
@@ -123,7 +123,7 @@ cell-way-requires : tie.Need-cell-way-requires invariant-loop decreases-loop
 cell-way-requires c κs =
     let h = head c.before.before.before in
     let l = h.loop in
-    (laid-row _ _ _ _ _ _ _ l.slots l.ways l.order l.row l.column l.i l.inv.1 (omega arith), l.inv.1.inside, (start h).pre.few)
+    (laid_row _ _ _ _ _ _ _ l.slots l.ways l.order l.row l.column l.i l.inv.1 (omega arith), l.inv.1.inside, (start h).pre.few)
 
 mul-ways : tie.Need-overflow-mul-ways invariant-loop decreases-loop
 mul-ways c = search rules
@@ -132,7 +132,7 @@ slice-write-ways : tie.Need-slice-write-ways invariant-loop decreases-loop
 slice-write-ways c =
     let h = head (fitted c).before in
     let p = (start h).pre in
-    over-room _ _ _ _ h.loop.inv.1.laid (omega arith)
+    over_room _ _ _ _ h.loop.inv.1.laid (omega arith)
 
 wait-for-requires : tie.Need-wait-for-requires invariant-loop decreases-loop
 wait-for-requires c κs =
@@ -146,7 +146,7 @@ add-column c = search rules
 add_row : tie.Need-overflow-add-row invariant-loop decreases-loop
 add_row c =
     let l = (head (fitted c.before.before.before).before).loop in
-    omega (arith, laid-row _ _ _ _ _ _ _ l.slots l.ways l.order l.row l.column l.i l.inv.1 (omega arith))
+    omega (arith, laid_row _ _ _ _ _ _ _ l.slots l.ways l.order l.row l.column l.i l.inv.1 (omega arith))
 
 add-i : tie.Need-overflow-add-i invariant-loop decreases-loop
 add-i c = search rules
@@ -169,8 +169,8 @@ module _ (c : tie.Joined2 invariant-loop decreases-loop) where
 
   -- the way that was worked out is that of the cell's own numbers
   way-read : laid-way.cell-way.result
-      ≡ wayFrom s.args.width s.args.height h.loop.row h.loop.column
-      (openOf s.args.covers.now (has-slot.slot.result / 4)) (get_or s.args.direction.now h.loop.i 0)
+      ≡ way_from s.args.width s.args.height h.loop.row h.loop.column
+      (open_of s.args.covers.now (has-slot.slot.result / 4)) (get_or s.args.direction.now h.loop.i 0)
   way-read = laid-way.cell-way.ensures
 
 loop-again : tie.Need-loop-preserved invariant-loop decreases-loop
@@ -179,24 +179,24 @@ loop-again c =
     let p = (s c).requires in (
       p.coded,
       ⊎_elim
-          (λ w. laid-down _ _ _ _ _ _ _ l.slots l.ways l.order l.row l.column l.i l.inv.1 (omega arith) _ _
-          p.slots-sized p.ways-sized p.few (has-slot c).slot.ensures.0 (fitted (laid-way c)).if1.left (way-read c) _
-          (c.before.wait-for.ensures ∙ ap (λ (n : ℕ). waitFor n (laid-way c).cell-way.result l.order) p.coded) _ _ w.0.taken w.1 w.2)
-          (λ w. laid-right _ _ _ _ _ _ _ l.slots l.ways l.order l.row l.column l.i l.inv.1 (omega arith) _ _
-          p.slots-sized p.ways-sized p.few (has-slot c).slot.ensures.0 (fitted (laid-way c)).if1.left (way-read c) _
-          (c.before.wait-for.ensures ∙ ap (λ (n : ℕ). waitFor n (laid-way c).cell-way.result l.order) p.coded) _ _ w.0.left w.1 w.2)
+          (λ w. laid_down _ _ _ _ _ _ _ l.slots l.ways l.order l.row l.column l.i l.inv.1 (omega arith) _ _
+          p.slots_sized p.ways_sized p.few (has-slot c).slot.ensures.0 (fitted (laid-way c)).if1.left (way-read c) _
+          (c.before.wait-for.ensures ∙ ap (λ (n : ℕ). wait_for n (laid-way c).cell-way.result l.order) p.coded) _ _ w.0.taken w.1 w.2)
+          (λ w. laid_right _ _ _ _ _ _ _ l.slots l.ways l.order l.row l.column l.i l.inv.1 (omega arith) _ _
+          p.slots_sized p.ways_sized p.few (has-slot c).slot.ensures.0 (fitted (laid-way c)).if1.left (way-read c) _
+          (c.before.wait-for.ensures ∙ ap (λ (n : ℕ). wait_for n (laid-way c).cell-way.result l.order) p.coded) _ _ w.0.left w.1 w.2)
           c.if2.branch,
     )
 
 same-length-3 : tie.Need-same-length-3 invariant-loop decreases-loop
 same-length-3 c =
     let p = (start c.before).pre in
-    ap length c.before.loop.invariant.1.slotted ∙ over-length _ _ _ (omega arith)
+    ap length c.before.loop.invariant.1.slotted ∙ over_length _ _ _ (omega arith)
 
 same-length-4 : tie.Need-same-length-4 invariant-loop decreases-loop
 same-length-4 c =
     let p = (start c.before).pre in
-    ap length c.before.loop.invariant.1.laid ∙ over-length _ _ _ (omega arith)
+    ap length c.before.loop.invariant.1.laid ∙ over_length _ _ _ (omega arith)
 
 returns-2 : tie.Need-returns-2 invariant-loop decreases-loop
 returns-2 c =
@@ -204,7 +204,7 @@ returns-2 c =
     let a = (start c.before).args in
     let all : l.i ≡ a.width * a.height = omega arith in
     record {
-      lowest-bad = no_place _ _ _ l.invariant.1.passed (omega arith);
+      lowest_bad = no_place _ _ _ l.invariant.1.passed (omega arith);
       slotted = λ e. rw all at l.invariant.1.slotted;
       laid = λ e. rw all at l.invariant.1.laid;
       counted = λ e. rw all at l.invariant.1.counted;

@@ -8,7 +8,7 @@ use lib.Dec.{ltb}
 use borrow.Author.Rules.{rules}
 use borrow.Author.Count.{below_more, below_none}
 use borrow.Author.Tests.{lt-ltb, le-ltb}
-use Rattle.theory.proofs.LowestLaws.{at-lowest, none-lowest}
+use Rattle.theory.proofs.LowestLaws.{at_lowest, none_lowest}
 use Rattle.records.specs.Places.{place_in}
 use Rattle.survey.specs.Order.{waits}
 use Rattle.survey.proofs.order.leftover.Tie as tie
@@ -34,7 +34,7 @@ returns c = let l = c.before.before.before.before.args.order.now in
     let i = c.before.before.before.loop.i in
     let one : ltb 0 (waits l i) ≡ true = lt-ltb 0 (waits l i) (omega arith) in
     let n = c.before.before.before.before.args.n in
-    sym (ap place_in (at-lowest n (λ i. ltb 0 (waits l i)) i (search rules) one c.before.before.before.loop.invariant.1))
+    sym (ap place_in (at_lowest n (λ i. ltb 0 (waits l i)) i (search rules) one c.before.before.before.loop.invariant.1))
 
 add-i : tie.Need-overflow-add-i invariant-loop decreases-loop
 add-i c = search rules
@@ -52,7 +52,7 @@ loop-again c = let l = c.before.before.before.before.args.order.now in
 returns-2 : tie.Need-returns-2 invariant-loop decreases-loop
 unfolding place_in
 returns-2 c = let l = c.before.before.args.order.now in
-    sym (ap place_in (none-lowest c.before.before.args.n (λ i. ltb 0 (waits l i)) (λ j h. c.before.loop.invariant.1 j (omega arith))))
+    sym (ap place_in (none_lowest c.before.before.args.n (λ i. ltb 0 (waits l i)) (λ j h. c.before.loop.invariant.1 j (omega arith))))
 
 pub leftover-spec : {M : Type 1} → statement M
 leftover-spec =

@@ -5,13 +5,13 @@ use native.Mathlib.Numerals.{add-one}
 use native.Mathlib.Omega.{arith}
 use lib.ListN.{length}
 use borrow.Author.Rules.{rules}
-use Rattle.theory.specs.Lists.{madeOver}
-use Rattle.theory.proofs.ListLaws.{over_none, over-more, over-length, over-room}
+use Rattle.theory.specs.Lists.{made_over}
+use Rattle.theory.proofs.ListLaws.{over_none, over_more, over_length, over_room}
 use Rattle.survey.proofs.order.none_waiting.Statement.{statement}
 use Rattle.survey.proofs.order.none_waiting.Tie as tie
 
 abbrev invariant-loop : tie.invariant-loop
-invariant-loop n order₀ i₀ order i = (i ≤ n) × (n ≤ length order₀) × (order ≡ madeOver i (λ k. 0) order₀)
+invariant-loop n order₀ i₀ order i = (i ≤ n) × (n ≤ length order₀) × (order ≡ made_over i (λ k. 0) order₀)
 
 abbrev decreases-loop : tie.decreases-loop
 decreases-loop n order₀ i₀ order i = n - i
@@ -23,7 +23,7 @@ mul-order : tie.Need-overflow-mul-order invariant-loop decreases-loop
 mul-order c = search rules
 
 slice-write-order : tie.Need-slice-write-order invariant-loop decreases-loop
-slice-write-order c = over-room _ _ _ _ c.before.loop.invariant.2 (omega arith)
+slice-write-order c = over_room _ _ _ _ c.before.loop.invariant.2 (omega arith)
 
 add-i : tie.Need-overflow-add-i invariant-loop decreases-loop
 add-i c = search rules
@@ -32,10 +32,10 @@ loop-less : tie.Need-loop-smaller invariant-loop decreases-loop
 loop-less c = search rules
 
 loop-again : tie.Need-loop-preserved invariant-loop decreases-loop
-loop-again c = (search rules, search rules, rw (add-one, c.before.loop.invariant.2) (over-more {A = ℕ} _ _ _ (omega arith)))
+loop-again c = (search rules, search rules, rw (add-one, c.before.loop.invariant.2) (over_more {A = ℕ} _ _ _ (omega arith)))
 
 same_length : tie.Need-same-length invariant-loop decreases-loop
-same_length c = ap length c.before.loop.invariant.2 ∙ over-length {A = ℕ} _ _ _ (omega arith)
+same_length c = ap length c.before.loop.invariant.2 ∙ over_length {A = ℕ} _ _ _ (omega arith)
 
 returns : tie.Need-returns invariant-loop decreases-loop
 returns c = let all : c.before.loop.i ≡ c.before.before.args.n = omega arith in rw all at c.before.loop.invariant.2

@@ -10,20 +10,20 @@ use native.Mathlib.Numerals.{add-one}
 use native.Mathlib.Omega.{arith}
 use borrow.Author.Rules.{rules}
 use lib.ListN.{get_or, set}
-use Rattle.survey.specs.Charts.{nextAs}
+use Rattle.survey.specs.Charts.{next_as}
 use Rattle.survey.specs.Order.{queued, PeeledHeld}
 use Rattle.survey.proofs.CountLaws.{way_next}
-use Rattle.survey.proofs.PeelLaws.{InHand, hand-source, hand-outside, hand-waiting, hand-room, hand-fits, hand-still, hand-joins}
+use Rattle.survey.proofs.PeelLaws.{InHand, hand_source, hand_outside, hand_waiting, hand_room, hand_fits, hand_still, hand_joins}
 use Rattle.survey.proofs.order.peel.Tie as tie
 
 abbrev invariant-loop2 : tie.invariant-loop2
-invariant-loop2 n ways order₀ sources tail₀ head cell way₀ order tail way = InHand n (nextAs n ways) head sources tail way order
+invariant-loop2 n ways order₀ sources tail₀ head cell way₀ order tail way = InHand n (next_as n ways) head sources tail way order
 
 abbrev decreases-loop2 : tie.decreases-loop2
 decreases-loop2 n ways order₀ sources tail₀ head cell way₀ order tail way = n - tail
 
 abbrev invariant-loop : tie.invariant-loop
-invariant-loop n ways order₀ sources tail₀ head₀ order tail head = (head ≤ sources) × (PeeledHeld n (nextAs n ways) head sources tail order)
+invariant-loop n ways order₀ sources tail₀ head₀ order tail head = (head ≤ sources) × (PeeledHeld n (next_as n ways) head sources tail order)
 
 abbrev decreases-loop : tie.decreases-loop
 decreases-loop n ways order₀ sources tail₀ head₀ order tail head = sources - head
@@ -58,7 +58,7 @@ most w = (start w).requires.0.most
 -- the cell in hand leads to j
 abbrev Leads : tie.After-index-of2 invariant-loop2 decreases-loop2 invariant-loop decreases-loop → ℕ → Type 0
 Leads w j =
-    InHand (start w).args.n (nextAs (start w).args.n (start w).args.ways.now) (outer w).loop.head (start w).args.sources (turn w).loop2.tail j
+    InHand (start w).args.n (next_as (start w).args.n (start w).args.ways.now) (outer w).loop.head (start w).args.sources (turn w).loop2.tail j
     (turn w).loop2.order
 
 in-hand : (w : tie.After-index-of2 invariant-loop2 decreases-loop2 invariant-loop decreases-loop) → Leads w w.index-of2.result
@@ -66,7 +66,7 @@ in-hand w = subst (Leads w) (sym w.index-of2.ensures) (turn w).loop2.invariant
 
 -- where j is a cell, the queue has room
 room-left : (w : tie.After-index-of2 invariant-loop2 decreases-loop2 invariant-loop decreases-loop) → w.index-of2.result < (start w).args.n → (turn w).loop2.tail < (start w).args.n
-room-left w i = hand-room (in-hand w) (most w) i
+room-left w i = hand_room (in-hand w) (most w) i
 
 loop-holds : tie.Need-loop-init invariant-loop2 decreases-loop2 invariant-loop decreases-loop
 loop-holds c = (search rules, c.requires.1)
@@ -91,7 +91,7 @@ loop2-holds : tie.Need-loop2-init invariant-loop2 decreases-loop2 invariant-loop
 loop2-holds c = let a = c.before in
     let at = a.before.before.before in
     rw (way_next at.before.requires.0 a.index_of.result (source-inside a), source a)
-    (hand-source at.loop.invariant.1 a.before.before.loop-test.true)
+    (hand_source at.loop.invariant.1 a.before.before.loop-test.true)
 
 index-of-requires-2 : tie.Need-index-of-requires-2 invariant-loop2 decreases-loop2 invariant-loop decreases-loop
 index-of-requires-2 c κs = search rules
@@ -109,7 +109,7 @@ element-copy-out-left : tie.Need-element-copy-out-left invariant-loop2 decreases
 element-copy-out-left c = omega (arith, most c.before.before)
 
 sub-left : tie.Need-overflow-sub-left invariant-loop2 decreases-loop2 invariant-loop decreases-loop
-sub-left c = let w = c.before.before.before in hand-waiting (in-hand w) (most w) c.before.before.if1.false
+sub-left c = let w = c.before.before.before in hand_waiting (in-hand w) (most w) c.before.before.if1.false
 
 mul-order : tie.Need-overflow-mul-order invariant-loop2 decreases-loop2 invariant-loop decreases-loop
 mul-order c = omega (arith, most c.before.before.before)
@@ -125,7 +125,7 @@ element-copy-out-order c = let w = c.before.before.before.before in omega (arith
 
 add-order : tie.Need-overflow-add-order invariant-loop2 decreases-loop2 invariant-loop decreases-loop
 add-order c = let w = c.before.before.before.before.before in
-    record { fits = omega (arith, w.index-of2.ensures, hand-fits (in-hand w) (most w) c.before.before.before.before.if1.false) }
+    record { fits = omega (arith, w.index-of2.ensures, hand_fits (in-hand w) (most w) c.before.before.before.before.if1.false) }
 
 element-write-order-2 : tie.Need-element-write-order-2 invariant-loop2 decreases-loop2 invariant-loop decreases-loop
 element-write-order-2 c = let w = c.before.before.before.before.before in
@@ -146,10 +146,10 @@ loop2-again c = let w = c.before.before.before.before.before in
     let l = (turn w).loop2.order in
     let tail = (turn w).loop2.tail in
     let less = set l j (get_or l j 0 - 8192) in
-    let joined : ℕ → Type 0 = λ x. InHand s.n (nextAs s.n s.ways.now) (outer w).loop.head s.sources (tail + 1) (nextAs s.n s.ways.now j)
+    let joined : ℕ → Type 0 = λ x. InHand s.n (next_as s.n s.ways.now) (outer w).loop.head s.sources (tail + 1) (next_as s.n s.ways.now j)
     (set less tail (get_or less tail 0 + x)) in
     rw (way_next (start w).requires.0 j i)
-    (subst joined w.index-of2.ensures (hand-joins (in-hand w) (most w) i (omega (arith, c.before.if2.false))))
+    (subst joined w.index-of2.ensures (hand_joins (in-hand w) (most w) i (omega (arith, c.before.if2.false))))
 
 add-head : tie.Need-overflow-add-head invariant-loop2 decreases-loop2 invariant-loop decreases-loop
 add-head c = search rules
@@ -162,8 +162,8 @@ loop-again c = let w = c.before in (
   search rules,
   rw add-one
       (⊎_elim
-      (λ b. rw b.1 (hand-outside (in-hand w) (most w) b.0.taken))
-      (λ b. rw b.4 (hand-still (in-hand w) (most w) b.0.left (omega (arith, b.3.taken))))
+      (λ b. rw b.1 (hand_outside (in-hand w) (most w) b.0.taken))
+      (λ b. rw b.4 (hand_still (in-hand w) (most w) b.0.left (omega (arith, b.3.taken))))
       c.if1.branch),
 )
 

@@ -7,7 +7,7 @@ use Prim.Native.Nat.{◌≤◌, ◌-◌}
 use native.Mathlib.Omega.{arith}
 use borrow.Author.Rules.{rules}
 use Rattle.survey.specs.Order.{waits, GatheredHeld}
-use Rattle.survey.proofs.GatherLaws.{gather_none, gather-fits, gather-skip, gather-put}
+use Rattle.survey.proofs.GatherLaws.{gather_none, gather_fits, gather_skip, gather_put}
 use Rattle.survey.proofs.order.sources.Tie as tie
 
 abbrev invariant-loop : tie.invariant-loop
@@ -36,7 +36,7 @@ element-copy-out-order c = search rules
 
 add-order : tie.Need-overflow-add-order invariant-loop decreases-loop
 add-order c = let at = c.before.before.before.before in
-    record { fits = gather-fits at.loop.invariant.1 (search rules) at.before.requires.most at.before.requires.few }
+    record { fits = gather_fits at.loop.invariant.1 (search rules) at.before.requires.most at.before.requires.few }
 
 element-write-order : tie.Need-element-write-order invariant-loop decreases-loop
 element-write-order c = search rules
@@ -56,8 +56,8 @@ loop-again c = let at = c.before.before.before in
     let counts = waits at.before.args.order.now in (
       search rules,
       ⊎_elim
-          (λ w. rw (w.2, w.3) (gather-put at.loop.invariant.1 (omega arith) at.before.requires.most w.0.taken))
-          (λ w. rw (w.1, w.2) (gather-skip at.loop.invariant.1 w.0.left))
+          (λ w. rw (w.2, w.3) (gather_put at.loop.invariant.1 (omega arith) at.before.requires.most w.0.taken))
+          (λ w. rw (w.1, w.2) (gather_skip at.loop.invariant.1 w.0.left))
           c.if1.branch,
     )
 

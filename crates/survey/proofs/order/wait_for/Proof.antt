@@ -4,7 +4,7 @@ use mathlib.Core.Path.{refl}
 use native.Mathlib.Omega.{arith}
 use borrow.Author.Rules.{rules}
 use borrow.Author.Tests.{lt-ltb, le-ltb}
-use Rattle.survey.specs.Order.{waitFor}
+use Rattle.survey.specs.Order.{wait_for}
 use Rattle.survey.proofs.order.wait_for.Tie as tie
 
 index-of-requires : tie.Need-index-of-requires
@@ -24,14 +24,14 @@ element-write-order : tie.Need-element-write-order
 element-write-order c = search rules
 
 returns : tie.Need-returns
-unfolding waitFor
+unfolding wait_for
 returns c =
     let at = c.before.before in
     let a = at.before.args in
     rw (at.index_of.ensures, lt-ltb a.way a.n (omega (arith, at.index_of.ensures))) refl
 
 returns-2 : tie.Need-returns-2
-unfolding waitFor
+unfolding wait_for
 returns-2 c =
     let at = c.before in
     let a = at.before.args in

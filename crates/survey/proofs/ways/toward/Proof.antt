@@ -7,7 +7,7 @@ use native.Mathlib.Nat.{mul-le-mul_right}
 use native.Mathlib.Omega.{arith}
 use Rattle.paper.specs.Directions.{stepped}
 use Rattle.survey.specs.Ways.{step_of}
-use Rattle.survey.proofs.DirectionLaws.{near-edge, far-edge, step-to, over-row, over-column, at-cell}
+use Rattle.survey.proofs.DirectionLaws.{near_edge, far_edge, step_to, over_row, over_column, at_cell}
 use Rattle.survey.proofs.ways.toward.Tie as tie
 
 -- the grid's sides are at most 4,096
@@ -34,23 +34,23 @@ add-x c = let e = small c in record { fits = omega (arith, e.0, c.requires) }
 
 returns : tie.Need-returns
 returns c = let s = c.before.args in
-    over-row s.width (stepped s.width (step_of s.right) s.column) (near-edge s.height s.row s.down c.if1.true)
+    over_row s.width (stepped s.width (step_of s.right) s.column) (near_edge s.height s.row s.down c.if1.true)
 
 returns-2 : tie.Need-returns-2
 returns-2 c = let p = c.before.before.requires in
     let s = c.before.before.args in
-    over-row s.width (stepped s.width (step_of s.right) s.column)
-    (far-edge s.height s.row s.down (omega arith) (omega arith) (omega arith))
+    over_row s.width (stepped s.width (step_of s.right) s.column)
+    (far_edge s.height s.row s.down (omega arith) (omega arith) (omega arith))
 
 returns-3 : tie.Need-returns-3
 returns-3 c = let s = c.before.before.before.args in
-    over-column s.width (stepped s.height (step_of s.down) s.row) (near-edge s.width s.column s.right c.if3.true)
+    over_column s.width (stepped s.height (step_of s.down) s.row) (near_edge s.width s.column s.right c.if3.true)
 
 returns-4 : tie.Need-returns-4
 returns-4 c = let p = c.before.before.before.before.requires in
     let s = c.before.before.before.before.args in
-    over-column s.width (stepped s.height (step_of s.down) s.row)
-    (far-edge s.width s.column s.right (omega arith) (omega arith) (omega arith))
+    over_column s.width (stepped s.height (step_of s.down) s.row)
+    (far_edge s.width s.column s.right (omega arith) (omega arith) (omega arith))
 
 sub-result : tie.Need-overflow-sub-result
 sub-result c = search rules
@@ -67,9 +67,9 @@ add-result c = record { fits = omega (arith, in-grid c.before.before.before.befo
 returns-5 : tie.Need-returns-5
 returns-5 c = let p = c.before.before.before.before.requires in
     let s = c.before.before.before.before.args in
-    at-cell s.width (s.row + s.down - 1) (s.column + s.right - 1)
-    (step-to s.height s.row s.down (omega arith) (omega arith) (omega arith))
-    (step-to s.width s.column s.right (omega arith) (omega arith) (omega arith))
+    at_cell s.width (s.row + s.down - 1) (s.column + s.right - 1)
+    (step_to s.height s.row s.down (omega arith) (omega arith) (omega arith))
+    (step_to s.width s.column s.right (omega arith) (omega arith) (omega arith))
 
 pub toward-spec : {M : Type 1} → statement M
 toward-spec =

@@ -6,8 +6,8 @@ use borrow.Author.Tests.{ne_eqb}
 use native.Mathlib.Omega.{arith, by_contra}
 use Rattle.paper.specs.Directions.{Way, toward, closed}
 use Rattle.paper.specs.Setup.{pointed}
-use Rattle.survey.specs.Ways.{goesFrom, step_of, wayAs}
-use Rattle.survey.proofs.DirectionLaws.{pointed-closed}
+use Rattle.survey.specs.Ways.{goes_from, step_of, way_as}
+use Rattle.survey.proofs.DirectionLaws.{pointed_closed}
 use Rattle.survey.proofs.ways.way.Statement.{statement}
 use Rattle.survey.proofs.ways.way.Tie as tie
 
@@ -18,19 +18,19 @@ steps-requires : tie.Need-steps-requires
 steps-requires c κs = search rules
 
 -- closed, or the two steps
-at-twelve : {k : ℕ} {w : Way} → k ≡ 12 → wayAs k ≡ w → w ≡ closed
-unfolding wayAs
-at-twelve e known = sym known ∙ ap wayAs e
+at-twelve : {k : ℕ} {w : Way} → k ≡ 12 → way_as k ≡ w → w ≡ closed
+unfolding way_as
+at-twelve e known = sym known ∙ ap way_as e
 
-both-steps : (k : ℕ) {w : Way} → (k ≡ 12 → ⊥) → wayAs k ≡ w → w ≡ toward (step_of (k / 4)) (step_of (k % 4))
-unfolding wayAs
+both-steps : (k : ℕ) {w : Way} → (k ≡ 12 → ⊥) → way_as k ≡ w → w ≡ toward (step_of (k / 4)) (step_of (k % 4))
+unfolding way_as
 both-steps k not known = sym known ∙ rw (ne_eqb k 12 not) refl
 
 returns : tie.Need-returns
 returns c =
     let a = c.before.before.args in
-    sym (ap (λ w. pointed (goesFrom a.width a.height a.row a.column w)) (at-twelve c.if1.true c.before.steps.ensures.0)
-    ∙ pointed-closed a.width a.height a.row a.column)
+    sym (ap (λ w. pointed (goes_from a.width a.height a.row a.column w)) (at-twelve c.if1.true c.before.steps.ensures.0)
+    ∙ pointed_closed a.width a.height a.row a.column)
 
 toward-requires : tie.Need-toward-requires
 toward-requires c κs =
@@ -40,11 +40,11 @@ toward-requires c κs =
     (p.0, p.1, p.2, omega arith, e.2)
 
 returns-2 : tie.Need-returns-2
-unfolding goesFrom
+unfolding goes_from
 returns-2 c =
     let a = c.before.before.before.args in
     c.toward.ensures
-    ∙ ap (λ w. pointed (goesFrom a.width a.height a.row a.column w)) (sym (both-steps _ c.before.if1.false c.before.before.steps.ensures.0))
+    ∙ ap (λ w. pointed (goes_from a.width a.height a.row a.column w)) (sym (both-steps _ c.before.if1.false c.before.before.steps.ensures.0))
 
 pub way-spec : {M : Type 1} → statement M
 way-spec = tie.close (tie.spec steps-requires returns toward-requires returns-2)

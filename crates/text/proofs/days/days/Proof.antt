@@ -12,15 +12,15 @@ use lib.Seq.{length-take-le}
 use Rattle.theory.specs.Lists.{made}
 use Rattle.paper.specs.Setup.{Setup}
 use Rattle.paper.specs.State.{State}
-use Rattle.paper.specs.Day.{Results, noResults}
-use Rattle.records.specs.Grids.{setupAs}
-use Rattle.records.specs.Past.{stateAs}
-use Rattle.records.specs.Days.{dayAs}
-use Rattle.records.specs.Verdicts.{verdictAs}
-use Rattle.records.specs.Answers.{totalsAs, resultsAs}
-use Rattle.text.specs.Program.{dayCount, dayAt}
-use Rattle.records.proofs.FrontLaws.{parts, Room, no-results, room, after, left}
-use Rattle.text.proofs.RunLaws.{Running, underway-first, day-count, this-day, count-few, all_told, told-last, told_more}
+use Rattle.paper.specs.Day.{Results, no_results}
+use Rattle.records.specs.Grids.{setup_as}
+use Rattle.records.specs.Past.{state_as}
+use Rattle.records.specs.Days.{day_as}
+use Rattle.records.specs.Verdicts.{verdict_as}
+use Rattle.records.specs.Answers.{totals_as, results_as}
+use Rattle.text.specs.Program.{day_count, day_at}
+use Rattle.records.proofs.FrontLaws.{parts, Room, no_results_lem, room, after, left}
+use Rattle.text.proofs.RunLaws.{Running, underway_first, day_count_lem, this_day, count_few, all_told, told_last, told_more}
 
 -- apart from the places, of which `omega` would read all that is known
 none_before : {n : ℕ} → 0 ≤ n
@@ -31,8 +31,8 @@ next-turn h = omega arith
 
 abbrev invariant-loop : tie.invariant-loop
 invariant-loop numbers grid climate covers direction cover group water soil₀ snow₀ output₀ n from count intercepted₀ outflow₀ evapotranspired₀ recharged₀ rejected₀ past₀ at₀ done₀ k₀ soil snow output intercepted outflow evapotranspired recharged rejected past at done k =
-    Running n count (setupAs grid climate covers direction cover group water) (stateAs soil₀ snow₀ past₀) (made (dayCount numbers) (dayAt numbers)) output₀ output
-    (stateAs soil snow past) intercepted outflow evapotranspired recharged rejected at done k
+    Running n count (setup_as grid climate covers direction cover group water) (state_as soil₀ snow₀ past₀) (made (day_count numbers) (day_at numbers)) output₀ output
+    (state_as soil snow past) intercepted outflow evapotranspired recharged rejected at done k
 
 abbrev decreases-loop : tie.decreases-loop
 decreases-loop numbers grid climate covers direction cover group water soil₀ snow₀ output₀ n from count intercepted₀ outflow₀ evapotranspired₀ recharged₀ rejected₀ past₀ at₀ done₀ k₀ soil snow output intercepted outflow evapotranspired recharged rejected past at done k =
@@ -54,34 +54,34 @@ start head = head.before.before.before.before.before.before.before.before.before
 -- what was handed over, as the paper's, and where the run stands before a day
 abbrev setup : tie.At-loop invariant-loop decreases-loop → Setup
 setup h =
-    setupAs (start h).args.grid (start h).args.climate (start h).args.covers.now (start h).args.direction.now (start h).args.cover.now
+    setup_as (start h).args.grid (start h).args.climate (start h).args.covers.now (start h).args.direction.now (start h).args.cover.now
     (start h).args.group.now (start h).args.water.now
 
 abbrev first : tie.At-loop invariant-loop decreases-loop → State
-first h = stateAs (start h).args.soil.now (start h).args.snow.now (start h).args.past
+first h = state_as (start h).args.soil.now (start h).args.snow.now (start h).args.past
 
 abbrev cells : tie.At-loop invariant-loop decreases-loop → ℕ
 cells h = length (start h).args.direction.now
 
 abbrev state : tie.At-loop invariant-loop decreases-loop → State
-state h = stateAs h.loop.soil h.loop.snow h.loop.past
+state h = state_as h.loop.soil h.loop.snow h.loop.past
 
 abbrev results : tie.At-loop invariant-loop decreases-loop → Results
 results h = parts (cells h) h.loop.intercepted h.loop.outflow h.loop.evapotranspired h.loop.recharged h.loop.rejected
 
 -- the stores and the results that a day left, and the arrays with those results at their fronts
 abbrev state' : tie.After-day invariant-loop decreases-loop → State
-state' e = stateAs e.day.new.1.1.1.1.1.1.1.0 e.day.new.1.1.1.1.1.1.1.1.0 e.day.result.past
+state' e = state_as e.day.new.1.1.1.1.1.1.1.0 e.day.new.1.1.1.1.1.1.1.1.0 e.day.result.past
 
 abbrev part : tie.After-day invariant-loop decreases-loop → Results
 part e =
     let new = e.day.new.1.1.1.1.1.1.1.1.1 in
-    resultsAs new.0 new.1.0 new.1.1.0 new.1.1.1.0 new.1.1.1.1.0
+    results_as new.0 new.1.0 new.1.1.0 new.1.1.1.0 new.1.1.1.1.0
 
 abbrev arrays : tie.After-day invariant-loop decreases-loop → Results
 arrays e =
     let h = head (date e) in
-    resultsAs (after (cells h) h.loop.intercepted (part e).intercepted) (after (cells h) h.loop.outflow (part e).outflow)
+    results_as (after (cells h) h.loop.intercepted (part e).intercepted) (after (cells h) h.loop.outflow (part e).outflow)
     (after (cells h) h.loop.evapotranspired (part e).evapotranspired) (after (cells h) h.loop.recharged (part e).recharged)
     (after (cells h) h.loop.rejected (part e).rejected)
 
@@ -103,7 +103,7 @@ loop-holds c = let few = c.before.before.before.before.before.before.before.befo
       soils = refl;
       snows = refl;
       room = room _ 4096 few;
-      underway = underway-first _ _ _ _ _ _ (no-results _ 4096 few);
+      underway = underway_first _ _ _ _ _ _ (no_results_lem _ 4096 few);
     }
 
 day-in-requires : tie.Need-day-in-requires invariant-loop decreases-loop
@@ -163,14 +163,14 @@ same-length-3 : tie.Need-same-length-3 invariant-loop decreases-loop
 same-length-3 c = omega (arith, (head (date (day c.before.before.before.before.before))).loop.inv.underway.long)
 
 -- the day is one of the run's
-more : (at : tie.After-day-in invariant-loop decreases-loop) → (head at).loop.k < dayCount (start (head at)).args.numbers.now
-more at = let s = start (head at) in omega (arith, day-count s.args.numbers.now _ s.pre.placed, at.before.loop-test.true)
+more : (at : tie.After-day-in invariant-loop decreases-loop) → (head at).loop.k < day_count (start (head at)).args.numbers.now
+more at = let s = start (head at) in omega (arith, day_count_lem s.args.numbers.now _ s.pre.placed, at.before.loop-test.true)
 
-this : (at : tie.After-day-in invariant-loop decreases-loop) → dayAs at.day-in.result ≡ dayAt (start (head at)).args.numbers.now (head at).loop.k
-this at = let s = start (head at) in this-day s.args.numbers.now s.args.layout s.pre.placed (dayAs at.day-in.result) (head at).loop.k s.pre.coded at.day-in.ensures
+this : (at : tie.After-day-in invariant-loop decreases-loop) → day_as at.day-in.result ≡ day_at (start (head at)).args.numbers.now (head at).loop.k
+this at = let s = start (head at) in this_day s.args.numbers.now s.args.layout s.pre.placed (day_as at.day-in.result) (head at).loop.k s.pre.coded at.day-in.ensures
 
 few : (at : tie.After-day-in invariant-loop decreases-loop) → (head at).loop.k < 4681
-few at = let s = start (head at) in omega (arith, count-few s.args.numbers.now s.args.layout s.pre.placed s.pre.coded, at.before.loop-test.true)
+few at = let s = start (head at) in omega (arith, count_few s.args.numbers.now s.args.layout s.pre.placed s.pre.coded, at.before.loop-test.true)
 
 returns : tie.Need-returns invariant-loop decreases-loop
 returns c = let told = c.before in
@@ -178,10 +178,10 @@ returns c = let told = c.before in
     let e = day tell in
     let at = date e in
     let h = head at in
-    told-last (start h).args.numbers.now (setup h) (first h) (noResults (cells h)) (start h).args.output.now h.loop.output (state h) (results h)
+    told_last (start h).args.numbers.now (setup h) (first h) (no_results (cells h)) (start h).args.output.now h.loop.output (state h) (results h)
     h.loop.at h.loop.done h.loop.k (start h).pre.coded h.loop.inv.underway
-    (dayAs at.day-in.result) (this at) (more at)
-    (verdictAs e.day.result.verdict) (part e) (totalsAs e.day.result.totals) (state' e) _ _ _
+    (day_as at.day-in.result) (this at) (more at)
+    (verdict_as e.day.result.verdict) (part e) (totals_as e.day.result.totals) (state' e) _ _ _
     e.day.ensures tell.tell.ensures told.next2.given.1
 
 add_done : tie.Need-overflow-add-done invariant-loop decreases-loop
@@ -206,10 +206,10 @@ loop-again c = let told = c.before.before in
       snows = e.day.kept.1.1.1.1.1.1.1.1.0 ∙ h.loop.inv.snows;
       room = (held e).0;
       underway =
-          told_more (start h).args.numbers.now (setup h) (first h) (noResults (cells h)) (start h).args.output.now h.loop.output (state h) (results h)
+          told_more (start h).args.numbers.now (setup h) (first h) (no_results (cells h)) (start h).args.output.now h.loop.output (state h) (results h)
           h.loop.at h.loop.done h.loop.k (start h).pre.coded h.loop.inv.underway
-          (dayAs at.day-in.result) (this at) (more at)
-          (verdictAs e.day.result.verdict) (part e) _ (totalsAs e.day.result.totals) (state' e) _ _ _
+          (day_as at.day-in.result) (this at) (more at)
+          (verdict_as e.day.result.verdict) (part e) _ (totals_as e.day.result.totals) (state' e) _ _ _
           (held e).1 e.day.ensures tell.tell.ensures told.next.given.1;
     }
 
@@ -229,7 +229,7 @@ returns-2 : tie.Need-returns-2 invariant-loop decreases-loop
 returns-2 c = let ended = c.before.before in
     let last = ended.before.before.before in
     let ns = (start last).args.numbers.now in
-    let count = day-count ns _ (start last).requires.placed in
+    let count = day_count_lem ns _ (start last).requires.placed in
     all_told ns _ _ _ _ _ _ _ _ _ _ (start last).requires.coded last.loop.invariant.underway _ _
     (omega (arith, count, ended.before.before.loop-test.false)) (omega (arith, count, last.loop.invariant.within)) ended.ended.ensures
 

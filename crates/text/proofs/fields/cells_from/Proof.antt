@@ -3,12 +3,12 @@ use borrow.Author.Rules.{rules}
 use mathlib.Core.Path.{ap, ◌∙◌}
 use Prim.Native.Nat.{ℕ, ◌+◌, ◌*◌}
 use native.Mathlib.Omega.{arith}
-use Rattle.text.specs.Program.{coverCount, cellsFrom}
+use Rattle.text.specs.Program.{cover_count, cells_from}
 use Rattle.text.proofs.fields.cells_from.Statement.{statement}
 use Rattle.text.proofs.fields.cells_from.Tie as tie
 
 returns : tie.Need-returns
-unfolding cellsFrom coverCount
+unfolding cells_from cover_count
 returns c = (ap (λ (n : ℕ). 5 + 16 * n) (c.index_of.ensures ∙ c.before.number_at.ensures), omega arith)
 
 pub cells-from-spec : {M : Type 1} → statement M

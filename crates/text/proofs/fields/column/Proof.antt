@@ -6,14 +6,14 @@ use Prim.Native.Nat.{◌+◌, ◌*◌, ◌-◌, ◌≤◌}
 use native.Mathlib.Omega.{arith}
 use borrow.Author.Rules.{rules}
 use lib.ListN.{get_or, replicate}
-use Rattle.theory.specs.Lists.{madeOver}
+use Rattle.theory.specs.Lists.{made_over}
 use Rattle.theory.proofs.ListLaws.{over_none, wrote}
-use Rattle.text.specs.Program.{cellsFrom}
+use Rattle.text.specs.Program.{cells_from}
 use Rattle.text.proofs.FieldLaws.{all_held}
 
 abbrev invariant-loop : tie.invariant-loop
 invariant-loop numbers which from count cells₀ i₀ cells i =
-    (i ≤ count) × (cells ≡ madeOver i (λ j. get_or numbers (cellsFrom numbers + 4 * j + which) 0) (replicate 4096 0))
+    (i ≤ count) × (cells ≡ made_over i (λ j. get_or numbers (cells_from numbers + 4 * j + which) 0) (replicate 4096 0))
 
 abbrev decreases-loop : tie.decreases-loop
 decreases-loop numbers which from count cells₀ i₀ cells i = count - i

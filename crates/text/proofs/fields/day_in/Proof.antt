@@ -2,7 +2,7 @@
 use borrow.Author.Rules.{rules}
 use Rattle.text.proofs.fields.day_in.Statement.{statement}
 use Rattle.text.proofs.fields.day_in.Tie as tie
-use Rattle.text.proofs.OneDayLaws.{day-fields}
+use Rattle.text.proofs.OneDayLaws.{day_fields}
 
 returns : tie.Need-returns
 returns c = let last = c.before in
@@ -17,7 +17,7 @@ returns c = let last = c.before in
     let second = third.before in
     let first = second.before in
     let place = first.before in
-    day-fields place.before.before.args.numbers.now place.before.before.args.from place.before.before.args.k _ place.day-place.ensures
+    day_fields place.before.before.args.numbers.now place.before.before.args.from place.before.before.args.k _ place.day-place.ensures
     _ _ _ _ _ _ _ _ _ _ _ _
     first.number_at.ensures second.number-at2.ensures
     third.number-at3.ensures gross.wide.ensures

@@ -6,15 +6,15 @@ use Prim.Native.Nat.{◌+◌, ◌*◌, ◌-◌, ◌≤◌}
 use native.Mathlib.Omega.{arith}
 use borrow.Author.Rules.{rules}
 use lib.ListN.{get_or, replicate}
-use Rattle.theory.specs.Lists.{madeOver}
+use Rattle.theory.specs.Lists.{made_over}
 use Rattle.theory.proofs.ListLaws.{over_none, wrote}
-use Rattle.text.specs.Program.{groupGiven, cellsFrom, setup}
+use Rattle.text.specs.Program.{group_given, cells_from, setup}
 use Rattle.text.proofs.FieldLaws.{all_held}
 
 abbrev invariant-loop : tie.invariant-loop
 invariant-loop numbers from count cells₀ i₀ cells i =
     (i ≤ count)
-    × (cells ≡ madeOver i (λ j. groupGiven (get_or numbers (cellsFrom numbers + 4 * j) 0) (get_or numbers (cellsFrom numbers + 4 * j + 2) 0)) (replicate 4096 0))
+    × (cells ≡ made_over i (λ j. group_given (get_or numbers (cells_from numbers + 4 * j) 0) (get_or numbers (cells_from numbers + 4 * j + 2) 0)) (replicate 4096 0))
 
 abbrev decreases-loop : tie.decreases-loop
 decreases-loop numbers from count cells₀ i₀ cells i = count - i

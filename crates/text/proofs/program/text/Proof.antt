@@ -5,13 +5,13 @@ use Rattle.text.proofs.program.text.Tie as tie
 use Prim.Native.Nat.{ℕ}
 use native.Mathlib.Omega.{arith}
 use lib.ListN.{length-replicate}
-use Rattle.words.proofs.WritingLaws.{wrote-whole}
-use Rattle.text.proofs.PrintedLaws.{text-refused, text-runs}
-use Rattle.text.proofs.TakingLaws.{ReadyText, ready-text}
+use Rattle.words.proofs.WritingLaws.{wrote_whole}
+use Rattle.text.proofs.PrintedLaws.{text_refused, text_runs}
+use Rattle.text.proofs.TakingLaws.{ReadyText, ready_text}
 
 -- what a text that is ready has
 ready : (c : tie.After-layout) → ReadyText c.before.before.before.before.before.before.args.input.now c.before.before.take-up.new.1.0 c.layout.given.0.0
-ready c = ready-text _ _ _ _ _ (length-replicate {A = ℕ} 32768 0) c.before.before.take-up.ensures c.layout.given.1
+ready c = ready_text _ _ _ _ _ (length-replicate {A = ℕ} 32768 0) c.before.before.take-up.ensures c.layout.given.1
 
 array-share-prefix-numbers : tie.Need-array-share-prefix-numbers
 array-share-prefix-numbers c = (ready c.before).room
@@ -25,12 +25,12 @@ started-requires c κs = let r = ready c.before.before.before in (r.complete, r.
 returns : tie.Need-returns
 returns c = let refused = c.before.before in
     let told = refused.before.before.before in
-    wrote-whole (text-refused _ _ _ _ told.before.before.take-up.ensures _ _ told.number.given.1) (omega arith) refused.refused.ensures
+    wrote_whole (text_refused _ _ _ _ told.before.before.take-up.ensures _ _ told.number.given.1) (omega arith) refused.refused.ensures
 
 returns-2 : tie.Need-returns-2
 returns-2 c = let started = c.before.before in
     let told = started.before.before.before.before in
-    wrote-whole (text-runs _ _ _ _ told.before.before.take-up.ensures _ told.layout.given.1 (ready told)) (omega arith) started.started.ensures
+    wrote_whole (text_runs _ _ _ _ told.before.before.take-up.ensures _ told.layout.given.1 (ready told)) (omega arith) started.started.ensures
 
 pub text-spec : {M : Type 1} → statement M
 text-spec =

@@ -8,7 +8,7 @@ use native.Mathlib.Omega.{arith}
 use borrow.Author.Tests.{not-true, not-false}
 use Rattle.paper.specs.Setup.{cells_of}
 use Rattle.text.specs.declared.screening.Screened.TheVariants.{Refused, Ready}
-use Rattle.text.proofs.ScreenLaws.{few-cells, few-covers, too_few, no-grid, no-covers, bad-count, cut_off, is-ready}
+use Rattle.text.proofs.ScreenLaws.{few_cells, few_covers, too_few, no_grid, no_covers, bad_count, cut_off, is_ready}
 
 units-requires : tie.Need-units-requires
 units-requires c κs = search rules
@@ -30,7 +30,7 @@ returns-2 c =
     let at-fits = c.before in
     let at-if1 = at-fits.before.before.before in
     let a = at-if1.before.before.args in
-    no-grid a.numbers.now at-if1.if1.false (sym at-fits.fits2.ensures ∙ not-true _ c.if2.true)
+    no_grid a.numbers.now at-if1.if1.false (sym at-fits.fits2.ensures ∙ not-true _ c.if2.true)
 
 units-requires-2 : tie.Need-units-requires-2
 units-requires-2 c κs = search rules
@@ -42,7 +42,7 @@ returns-3 c =
     let at-fits = at-if2.before in
     let at-if1 = at-fits.before.before.before in
     let a = at-if1.before.before.args in
-    ap (Refused 11) c.units2.ensures ∙ no-covers a.numbers.now at-if1.if1.false (sym at-fits.fits2.ensures ∙ not-false _ at-if2.if2.false) at-if3.if3.true
+    ap (Refused 11) c.units2.ensures ∙ no_covers a.numbers.now at-if1.if1.false (sym at-fits.fits2.ensures ∙ not-false _ at-if2.if2.false) at-if3.if3.true
 
 shared-slice-read-covers : tie.Need-shared-slice-read-covers
 shared-slice-read-covers c = search rules
@@ -58,7 +58,7 @@ returns-4 c =
     let at-fits = at-if2.before in
     let at-if1 = at-fits.before.before.before in
     let a = at-if1.before.before.args in
-    bad-count a.numbers.now at-if1.if1.false (sym at-fits.fits2.ensures ∙ not-false _ at-if2.if2.false) at-if3.if3.false (sym at-covers-fit.covers-fit.ensures ∙ not-true _ c.if4.true)
+    bad_count a.numbers.now at-if1.if1.false (sym at-fits.fits2.ensures ∙ not-false _ at-if2.if2.false) at-if3.if3.false (sym at-covers-fit.covers-fit.ensures ∙ not-true _ c.if4.true)
 
 cells-requires : tie.Need-cells-requires
 cells-requires c κs = search rules
@@ -80,8 +80,8 @@ needed-small c =
       arith,
       c.index_of.ensures,
       at_cells.cells.ensures,
-      few-cells a.numbers.now (sym at-fits.fits2.ensures ∙ not-false _ at-if2.if2.false),
-      few-covers a.numbers.now (sym at-covers-fit.covers-fit.ensures ∙ not-false _ at-if4.if4.false),
+      few_cells a.numbers.now (sym at-fits.fits2.ensures ∙ not-false _ at-if2.if2.false),
+      few_covers a.numbers.now (sym at-covers-fit.covers-fit.ensures ∙ not-false _ at-if4.if4.false),
     )
 
 mul-complete : tie.Need-overflow-mul-complete
@@ -134,7 +134,7 @@ returns-6 c =
     let at-if1 = at-fits.before.before.before in
     let a = at-if1.before.before.args in
     ap Ready at_cells.cells.ensures
-    ∙ is-ready a.numbers.now at-if1.if1.false (sym at-fits.fits2.ensures ∙ not-false _ at-if2.if2.false) at-if3.if3.false (sym at-covers-fit.covers-fit.ensures ∙ not-false _ at-if4.if4.false)
+    ∙ is_ready a.numbers.now at-if1.if1.false (sym at-fits.fits2.ensures ∙ not-false _ at-if2.if2.false) at-if3.if3.false (sym at-covers-fit.covers-fit.ensures ∙ not-false _ at-if4.if4.false)
     (rw (at_cells.cells.ensures, at_place.index_of.ensures) at (sym at-complete.complete.ensures ∙ not-false _ c.if5.false))
 
 pub screen-spec : {M : Type 1} → statement M

@@ -5,10 +5,10 @@ use Rattle.text.proofs.starting.begun.Tie as tie
 use mathlib.Core.Path.{ap, ◌∙◌}
 use native.Mathlib.Omega.{arith}
 use Rattle.paper.specs.State.{State}
-use Rattle.records.specs.Past.{stateAs}
-use Rattle.records.specs.Verdicts.{verdictAs}
-use Rattle.words.proofs.WritingLaws.{wrote-whole}
-use Rattle.text.proofs.StartLaws.{days-ready, start-refused, start-runs}
+use Rattle.records.specs.Past.{state_as}
+use Rattle.records.specs.Verdicts.{verdict_as}
+use Rattle.words.proofs.WritingLaws.{wrote_whole}
+use Rattle.text.proofs.StartLaws.{days_ready, start_refused, start_runs}
 
 -- the places that the needs name: from the stores after the fresh state back to it, the climate read and the start
 abbrev fresh : tie.After-slice-known5 → tie.After-fresh
@@ -29,7 +29,7 @@ ran c = c.before.before.before.before.before.before.before.before.before.before.
 
 -- the state that the fresh state left in the stores
 abbrev left : tie.After-fresh → State
-left f = stateAs f.fresh.new.1.1.1.1.1.1.1.0 f.fresh.new.1.1.1.1.1.1.1.1.0 f.fresh.result.past
+left f = state_as f.fresh.new.1.1.1.1.1.1.1.0 f.fresh.new.1.1.1.1.1.1.1.1.0 f.fresh.result.past
 
 grid-in-requires : tie.Need-grid-in-requires
 grid-in-requires c κs = search rules
@@ -41,7 +41,7 @@ refusal-requires : tie.Need-refusal-requires
 refusal-requires c κs = search rules
 
 days-requires : tie.Need-days-requires
-days-requires c κs = let p = (start (climate (fresh c.before.before.before.before.before.before))).requires in days-ready _ _ _ _ _ _ _ _ _ p.0 p.1
+days-requires c κs = let p = (start (climate (fresh c.before.before.before.before.before.before))).requires in days_ready _ _ _ _ _ _ _ _ _ p.0 p.1
 
 returns : tie.Need-returns
 returns c = let refusal = c.before.before in
@@ -49,9 +49,9 @@ returns c = let refusal = c.before.before in
     let lent = told.before.before in
     let at = climate (fresh lent) in
     let p = (start at).pre in
-    wrote-whole
-    (start-refused _ _ _ _ _ _ _ _ _ p.0 p.1 _ _ at.before.grid-in.ensures at.climate-in.ensures (left (fresh lent)) (verdictAs (fresh lent).fresh.result.verdict) _
-    (fresh lent).fresh.ensures (ap verdictAs told.verdict.given.1))
+    wrote_whole
+    (start_refused _ _ _ _ _ _ _ _ _ p.0 p.1 _ _ at.before.grid-in.ensures at.climate-in.ensures (left (fresh lent)) (verdict_as (fresh lent).fresh.result.verdict) _
+    (fresh lent).fresh.ensures (ap verdict_as told.verdict.given.1))
     (omega arith)
     refusal.refusal.ensures
 
@@ -61,9 +61,9 @@ returns-2 c = let days = c.before.before.before.before.before.before in
     let lent = told.before.before in
     let at = climate (fresh lent) in
     let p = (start at).pre in
-    wrote-whole
-    (start-runs _ _ _ _ _ _ _ _ _ p.0 p.1 _ _ at.before.grid-in.ensures at.climate-in.ensures (left (fresh lent)) (verdictAs (fresh lent).fresh.result.verdict)
-    (fresh lent).fresh.ensures (ap verdictAs told.enum_told.given.1))
+    wrote_whole
+    (start_runs _ _ _ _ _ _ _ _ _ p.0 p.1 _ _ at.before.grid-in.ensures at.climate-in.ensures (left (fresh lent)) (verdict_as (fresh lent).fresh.result.verdict)
+    (fresh lent).fresh.ensures (ap verdict_as told.enum_told.given.1))
     (omega arith)
     days.days.ensures
 

@@ -4,7 +4,7 @@ use mathlib.Core.Path.{◌≡◌, sym, ◌∙◌}
 use native.Mathlib.Omega.{arith}
 use Rattle.text.specs.Program.{screen}
 use Rattle.text.specs.declared.screening.Screened.TheVariants.{Ready}
-use Rattle.text.proofs.TakingLaws.{taken_refused, taken-ready, days-inside, days-small}
+use Rattle.text.proofs.TakingLaws.{taken_refused, taken_ready, days_inside, days_small}
 use Rattle.text.proofs.taking.screened.Statement.{statement}
 use Rattle.text.proofs.taking.screened.Tie as tie
 
@@ -13,19 +13,19 @@ passed : (c : tie.After-cells-from) → screen c.before.before.before.before.bef
 passed c = sym c.before.before.before.before.screen.ensures ∙ c.before.before.cells.given.1
 
 mul-days-from : tie.Need-overflow-mul-days-from
-mul-days-from c = omega (arith, days-small _ _ (passed c) _ c.cells-from.ensures.0)
+mul-days-from c = omega (arith, days_small _ _ (passed c) _ c.cells-from.ensures.0)
 
 add-days-from : tie.Need-overflow-add-days-from
-add-days-from c = omega (arith, days-small _ _ (passed c) _ c.cells-from.ensures.0)
+add-days-from c = omega (arith, days_small _ _ (passed c) _ c.cells-from.ensures.0)
 
 sub-days : tie.Need-overflow-sub-days
-sub-days c = days-inside _ _ (passed c) _ c.cells-from.ensures.0
+sub-days c = days_inside _ _ (passed c) _ c.cells-from.ensures.0
 
 returns : tie.Need-returns
 returns c = taken_refused _ _ _ (sym c.before.before.before.screen.ensures ∙ c.before.number.given.1)
 
 returns-2 : tie.Need-returns-2
-returns-2 c = taken-ready _ _ (passed c) _ c.cells-from.ensures.0
+returns-2 c = taken_ready _ _ (passed c) _ c.cells-from.ensures.0
 
 pub screened-spec : {M : Type 1} → statement M
 screened-spec =

@@ -2,17 +2,17 @@
 use mathlib.Core.Path.{sym, ◌∙◌}
 use borrow.Author.Tests.{not-true, not-false}
 use borrow.Author.Rules.{rules}
-use Rattle.weather.proofs.TodayLaws.{today-fits, no-day, no-memory}
+use Rattle.weather.proofs.TodayLaws.{today_fits, no_day, no_memory}
 use Rattle.weather.proofs.today.today_of.Statement.{statement}
 use Rattle.weather.proofs.today.today_of.Tie as tie
 
 returns : tie.Need-returns
-returns c = c.no-weather.ensures ∙ no-day _ _ _ (sym c.before.before.fits2.ensures ∙ not-true _ c.before.if1.true)
+returns c = c.no-weather.ensures ∙ no_day _ _ _ (sym c.before.before.fits2.ensures ∙ not-true _ c.before.if1.true)
 
 returns-2 : tie.Need-returns-2
 returns-2 c =
     c.no-weather2.ensures
-    ∙ no-memory _ _ _ (sym c.before.before.before.before.fits2.ensures ∙ not-false _ c.before.before.before.if1.false)
+    ∙ no_memory _ _ _ (sym c.before.before.before.before.fits2.ensures ∙ not-false _ c.before.before.before.if1.false)
     (sym c.before.before.fits3.ensures ∙ not-true _ c.before.if2.true)
 
 weather-of-requires : tie.Need-weather-of-requires
@@ -24,7 +24,7 @@ weather-of-requires c κs = (
 returns-3 : tie.Need-returns-3
 returns-3 c =
     c.weather-of.ensures
-    ∙ sym (today-fits _ _ _ (sym c.before.before.before.before.fits2.ensures ∙ not-false _ c.before.before.before.if1.false)
+    ∙ sym (today_fits _ _ _ (sym c.before.before.before.before.fits2.ensures ∙ not-false _ c.before.before.before.if1.false)
     (sym c.before.before.fits3.ensures ∙ not-false _ c.before.if2.false))
 
 pub today-of-spec : {M : Type 1} → statement M

@@ -5,16 +5,16 @@ use native.Mathlib.Omega.{arith}
 use borrow.Author.Rules.{rules}
 use lib.ListN.{length}
 use lib.Seq.{length-take-le}
-use Rattle.words.proofs.WritingLaws.{wrote-bytes}
-use Rattle.lines.proofs.WritingLaws.{wrote-item}
-use Rattle.explained.proofs.LineLaws.{part_then, wrote-inside}
+use Rattle.words.proofs.WritingLaws.{wrote_bytes}
+use Rattle.lines.proofs.WritingLaws.{wrote_item}
+use Rattle.explained.proofs.LineLaws.{part_then, wrote_inside}
 use Rattle.why.proofs.printing.say_missing.Statement.{statement}
 use Rattle.why.proofs.printing.say_missing.Tie as tie
 
 inside : (c : tie.After-put-item) → c.put_item.result ≤ length c.put_item.new.0
 inside c =
-    wrote-inside
-    (part_then (omega arith) (wrote-bytes c.before.before.before.before.put-bytes.ensures) (λ long. wrote-item _ _ (omega arith) c.put_item.ensures))
+    wrote_inside
+    (part_then (omega arith) (wrote_bytes c.before.before.before.before.put-bytes.ensures) (λ long. wrote_item _ _ (omega arith) c.put_item.ensures))
     (omega arith)
 
 array-share-prefix-line : tie.Need-array-share-prefix-line

@@ -6,8 +6,8 @@ use borrow.Author.Rules.{rules}
 use borrow.Author.Tests.{ltb-true}
 use lib.ListN.{length}
 use Rattle.theory.proofs.Cases.{and_left}
-use Rattle.words.proofs.WritingLaws.{wrote-length}
-use Rattle.explained.proofs.TellingLaws.{tells-inside}
+use Rattle.words.proofs.WritingLaws.{wrote_length}
+use Rattle.explained.proofs.TellingLaws.{tells_inside}
 use Rattle.why.proofs.run.days.Statement.{statement}
 use Rattle.why.proofs.run.days.Tie as tie
 
@@ -30,7 +30,7 @@ below : (day : tie.After-explain-day invariant-loop decreases-loop) → (head da
 below day = ltb-true _ _ (and_left _ _ day.before.before.before.before.before.if1.true)
 
 kept : (day : tie.After-explain-day invariant-loop decreases-loop) → length day.explain-day.new.1.1.1.1.1.1.1.1.1.1.1.1.0 ≡ 433
-kept day = wrote-length day.explain-day.ensures.lines.lines ∙ (head day).loop.invariant.3
+kept day = wrote_length day.explain-day.ensures.lines.lines ∙ (head day).loop.invariant.3
 
 loop-holds : tie.Need-loop-init invariant-loop decreases-loop
 loop-holds c = (omega arith, refl, refl, refl)
@@ -43,7 +43,7 @@ slice-aggregate-show c = sym (kept c.before.before.before.before.before.before.b
 
 show-requires : tie.Need-show-requires invariant-loop decreases-loop
 show-requires c κs = let day = c.before.before.before.before.before.before.before in (
-  tells-inside _ _ _ _ _ _ day.explain-day.ensures.lines (omega (arith, (head day).loop.invariant.3)),
+  tells_inside _ _ _ _ _ _ day.explain-day.ensures.lines (omega (arith, (head day).loop.invariant.3)),
   omega (arith, below day, (head day).loop.invariant.0, (start (head day)).fits),
 )
 

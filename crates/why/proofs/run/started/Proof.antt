@@ -3,7 +3,7 @@
 use borrow.Author.Rules.{rules}
 use Prim.Native.Nat.{◌≤◌}
 use Rattle.text.specs.Run.{Complete}
-use Rattle.text.proofs.LayingLaws.{cells_fit, table-starts, table-ends, part_held, part-long}
+use Rattle.text.proofs.LayingLaws.{cells_fit, table_starts, table_ends, part_held, part_long}
 use Rattle.records.proofs.FrontLaws.{part_length}
 use Rattle.why.proofs.run.started.Statement.{statement}
 use Rattle.why.proofs.run.started.Tie as tie
@@ -19,37 +19,37 @@ few : (last : tie.After-waters-in) → (start last).args.layout.cells ≤ 4096
 few last = cells_fit _ _ (complete last)
 
 sub-begun : tie.Need-overflow-sub-begun
-sub-begun c = table-starts _ _ (complete c)
+sub-begun c = table_starts _ _ (complete c)
 
 part-begun-start : tie.Need-slice-bounds-begun-start
-part-begun-start c = table-starts _ _ (complete c)
+part-begun-start c = table_starts _ _ (complete c)
 
 part-begun-end : tie.Need-slice-bounds-begun-end
-part-begun-end c = table-ends _ _ (complete c)
+part-begun-end c = table_ends _ _ (complete c)
 
 array-share-prefix-direction : tie.Need-array-share-prefix-direction
 array-share-prefix-direction c = let last = c.before in part_held _ _ (complete last) _ _ last.before.before.before.directions-in.ensures
 
 slice-aggregate-begun : tie.Need-slice-aggregate-begun
-slice-aggregate-begun c = let last = c.before.before in part-long _ _ (complete last) _ _ last.before.before.before.directions-in.ensures
+slice-aggregate-begun c = let last = c.before.before in part_long _ _ (complete last) _ _ last.before.before.before.directions-in.ensures
 
 array-share-prefix-cover : tie.Need-array-share-prefix-cover
 array-share-prefix-cover c = let last = c.before.before in part_held _ _ (complete last) _ _ last.before.before.covers-in.ensures
 
 slice-aggregate-begun-2 : tie.Need-slice-aggregate-begun-2
-slice-aggregate-begun-2 c = let last = c.before.before.before in part-long _ _ (complete last) _ _ last.before.before.covers-in.ensures
+slice-aggregate-begun-2 c = let last = c.before.before.before in part_long _ _ (complete last) _ _ last.before.before.covers-in.ensures
 
 array-share-prefix-group : tie.Need-array-share-prefix-group
 array-share-prefix-group c = let last = c.before.before.before in part_held _ _ (complete last) _ _ last.before.groups-in.ensures
 
 slice-aggregate-begun-3 : tie.Need-slice-aggregate-begun-3
-slice-aggregate-begun-3 c = let last = c.before.before.before.before in part-long _ _ (complete last) _ _ last.before.groups-in.ensures
+slice-aggregate-begun-3 c = let last = c.before.before.before.before in part_long _ _ (complete last) _ _ last.before.groups-in.ensures
 
 array-share-prefix-water : tie.Need-array-share-prefix-water
 array-share-prefix-water c = let last = c.before.before.before.before in part_held _ _ (complete last) _ _ last.waters-in.ensures
 
 slice-aggregate-begun-4 : tie.Need-slice-aggregate-begun-4
-slice-aggregate-begun-4 c = let last = c.before.before.before.before.before in part-long _ _ (complete last) _ _ last.waters-in.ensures
+slice-aggregate-begun-4 c = let last = c.before.before.before.before.before in part_long _ _ (complete last) _ _ last.waters-in.ensures
 
 array-borrow-prefix-soil : tie.Need-array-borrow-prefix-soil
 array-borrow-prefix-soil c = few c.before.before.before.before.before

@@ -1,13 +1,13 @@
 -- `Header::fits` meets its contract: its tests are the paper's, one by one.
 use mathlib.Core.Path.{refl}
 use borrow.Author.Rules.{rules}
-use Rattle.grids.specs.Headers.{headerFits}
+use Rattle.grids.specs.Headers.{header_fits}
 use Rattle.grids.proofs.WholeLaws.{whole}
 use Rattle.grids.proofs.headers.Header.fits.Statement.{statement}
 use Rattle.grids.proofs.headers.Header.fits.Tie as tie
 
 returns : tie.Need-returns
-unfolding headerFits
+unfolding header_fits
 returns c =
     rw (
       c.before.before.before.before.fits2.ensures,

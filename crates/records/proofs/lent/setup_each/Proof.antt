@@ -1,9 +1,0 @@
--- `lent::setup_each` meets its contract: a test for each length.
-use Rattle.paper.specs.Refusals.{oneEach}
-use mathlib.Core.Path.{refl}
-use Rattle.records.proofs.lent.setup_each.Statement.{statement}
-use Rattle.records.proofs.lent.setup_each.Tie as tie
-
-pub setup-each-spec : {M : Type 1} → statement M
-unfolding oneEach
-setup-each-spec = tie.close (tie.spec (λ c. refl))

@@ -1,0 +1,8 @@
+-- `spans::is_blank` meets its contract.
+use mathlib.Core.Path.{refl}
+use Rattle.words.specs.Words.{is_blank}
+use Rattle.words.proofs.spans.is_blank.Goals as goal
+
+pub returns : goal.returns
+unfolding is_blank
+returns c = refl
