@@ -2,12 +2,8 @@
 use Rattle.std.proofs.Common.{refl}
 use lib.Ieee.{of_bits, round, le}
 use Rattle.paper.specs.Radiation.{decimal, whole, between, radiation_fits}
-use Rattle.radiation.proofs.limits.radiation_fits.Statement.{statement}
-use Rattle.radiation.proofs.limits.radiation_fits.Tie as tie
+use Rattle.radiation.proofs.limits.radiation_fits.Goals as goal
 
-returns : tie.Need-returns
+pub returns : goal.returns
 unfolding le radiation_fits of_bits between whole decimal round
 returns c = refl
-
-pub radiation-fits-spec : {M : Type 1} → statement M
-radiation-fits-spec = tie.close (tie.spec returns)

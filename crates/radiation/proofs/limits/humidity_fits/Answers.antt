@@ -2,12 +2,8 @@
 use Rattle.std.proofs.Common.{refl}
 use lib.Ieee.{of_bits, round, le}
 use Rattle.paper.specs.Radiation.{decimal, whole, between, humidity_fits}
-use Rattle.radiation.proofs.limits.humidity_fits.Statement.{statement}
-use Rattle.radiation.proofs.limits.humidity_fits.Tie as tie
+use Rattle.radiation.proofs.limits.humidity_fits.Goals as goal
 
-returns : tie.Need-returns
+pub returns : goal.returns
 unfolding le humidity_fits of_bits between whole decimal round
 returns c = refl
-
-pub humidity-fits-spec : {M : Type 1} → statement M
-humidity-fits-spec = tie.close (tie.spec returns)

@@ -3,16 +3,12 @@ use Rattle.std.proofs.Common.{sym}
 use lib.Ieee.{of_bits, round}
 use Rattle.theory.proofs.Cases.{cond_true, cond_false}
 use Rattle.paper.specs.Radiation.{decimal, whole, jensen_haise_by, jensen_haise_of}
-use Rattle.radiation.proofs.estimates.jensen_haise.Statement.{statement}
-use Rattle.radiation.proofs.estimates.jensen_haise.Tie as tie
+use Rattle.radiation.proofs.estimates.jensen_haise.Goals as goal
 
-returns : tie.Need-returns
+pub returns-then-estimate : goal.returns-then-estimate
 unfolding jensen_haise_of jensen_haise_by whole decimal round of_bits
-returns c = sym (cond_true _ c.if1.true _ _)
+returns-then-estimate c = sym (cond_true _ c.if-estimate.true _ _)
 
-returns-2 : tie.Need-returns-2
+pub returns : goal.returns
 unfolding jensen_haise_of jensen_haise_by whole decimal round of_bits
-returns-2 c = sym (cond_false _ c.if1.false _ _)
-
-pub jensen-haise-spec : {M : Type 1} → statement M
-jensen-haise-spec = tie.close (tie.spec returns returns-2)
+returns c = sym (cond_false _ c.if-estimate.false _ _)
