@@ -34,6 +34,7 @@ pub const LARGEST_RECHARGES: usize = 5;
 
 pub const ROOT_DEPTHS: usize = 11;
 
+#[tactic(auto, unfolding(paper::specs::Covers::size_fits, paper::specs::Covers::entries))]
 fn size_fits(covers: &[u32]) -> bool
     ensures { result ≡ size_fits covers.now }
 {
@@ -75,6 +76,7 @@ fn rises(covers: &[u32], e: usize) -> bool
     code_of(covers, e - 1) < code_of(covers, e)
 }
 
+#[tactic(auto, unfolding(paper::specs::Covers::group_fits))]
 fn group_fits(covers: &[u32], e: usize, group: usize) -> bool
     requires { (16 * e + 16 ≤ length covers.now) × (group ≤ 4) }
     ensures { result ≡ group_fits covers.now e group }
@@ -85,6 +87,7 @@ fn group_fits(covers: &[u32], e: usize, group: usize) -> bool
         & (number_of(covers, e, ROOT_DEPTHS + group) <= MOST_ROOT_DEPTH)
 }
 
+#[tactic(auto, unfolding(paper::specs::Covers::entry_fits))]
 fn entry_fits(covers: &[u32], e: usize) -> bool
     requires { 16 * e + 16 ≤ length covers.now }
     ensures { result ≡ entry_fits covers.now e }

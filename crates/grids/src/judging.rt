@@ -16,6 +16,7 @@ const BAD_GRID: u32 = 12;
 
 impl GridVerdict {
     // 0 where it accepts.
+    #[tactic(auto, unfolding(crate::specs::Judging::grid_number))]
     pub fn number(self) -> u32
         ensures { result ≡ grid_number (verdict_as self) }
     {
@@ -25,6 +26,7 @@ impl GridVerdict {
         }
     }
 
+    #[tactic(auto, unfolding(crate::specs::Judging::grid_place))]
     pub fn place(self) -> usize
         ensures { result ≡ grid_place (verdict_as self) }
     {

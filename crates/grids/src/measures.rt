@@ -90,6 +90,7 @@ impl Measure {
         Measure { bytes, count }
     }
 
+    #[tactic(auto, unfolding(crate::specs::Given::measure_in))]
     pub(crate) fn none() -> Measure
         ensures { result ≡ measure_in [] }
     {

@@ -14,6 +14,7 @@ pub enum Potential {
 
 impl Potential {
     // The refusal's; 0 where there is none.
+    #[tactic(auto, unfolding(paper::specs::Radiation::estimate_number))]
     pub fn number(self) -> u32
         ensures { (result ≡ estimate_number (potential_as self)) × (result ≤ 13) }
     {
@@ -33,6 +34,7 @@ impl Potential {
     }
 
     // 0 where it is refused.
+    #[tactic(auto, unfolding(paper::specs::Radiation::estimate_units))]
     pub fn depth(self) -> Depth
         ensures { result.0 ≡ estimate_units (potential_as self) }
     {

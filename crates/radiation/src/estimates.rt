@@ -41,6 +41,7 @@ fn jensen_haise(mean: f64, radiation: f64) -> f64
     estimate
 }
 
+#[tactic(auto, unfolding(paper::specs::Radiation::millimetres))]
 fn millimetres(mean: f64, estimate: Estimate) -> f64
     ensures { result ≡ millimetresOf mean (estimate_as estimate) }
 {

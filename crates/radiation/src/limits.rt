@@ -30,6 +30,7 @@ fn humidity_fits(humidity: f64) -> bool
 }
 
 // Those of the chosen estimate, and no others.
+#[tactic(auto, unfolding(paper::specs::Radiation::estimate_fits))]
 fn estimate_fits(estimate: Estimate) -> bool
     ensures { result ≡ estimate_fits (estimate_as estimate) }
 {
@@ -39,6 +40,7 @@ fn estimate_fits(estimate: Estimate) -> bool
     }
 }
 
+#[tactic(auto, unfolding(paper::specs::Radiation::weather_fits))]
 pub(crate) fn weather_fits(weather: Weather) -> bool
     ensures { result ≡ weather_fits (weather_as weather) }
 {

@@ -55,7 +55,7 @@ read z = to_z w32 (of_z w32 z)
 
 module _ (z : ℤ) (h : mag z < 2147483648) where
   whole : read z ≡ z
-  whole = to_z-of_z (record { sfits = h })
+  whole = to_z-of_z {w = w32} (record { sfits = h })
 
   pub none_above : le_z (read z) (pos 320) ≡ true → (0 ≡ above_freezing z) × (0 < farthest)
   none_above p = (sym (above_none z (rw whole at p)), omega arith)

@@ -34,6 +34,7 @@ fn not_above(low: TenthF, high: TenthF) -> bool
 impl DayRecord {
     pub const MOST_SERIAL: u32 = 9999999;
 
+    #[tactic(auto, unfolding(paper::specs::State::day_fits))]
     pub fn fits(self) -> bool
         ensures { result ≡ day_fits (day_as self) }
     {

@@ -44,6 +44,7 @@ impl Grid {
         index_of(width) * index_of(height)
     }
 
+    #[tactic(auto, unfolding(paper::specs::Setup::grid_fits))]
     pub fn fits(self) -> bool
         ensures { result ≡ grid_fits (grid_as self) }
     {
@@ -54,6 +55,7 @@ impl Grid {
 impl Season {
     pub const LAST_DAY_OF_YEAR: u32 = 366;
 
+    #[tactic(auto, unfolding(paper::specs::Setup::season_fits))]
     pub fn fits(self) -> bool
         ensures { result ≡ season_fits (season_as self) }
     {
@@ -63,6 +65,7 @@ impl Season {
     }
 
     // Both ends of the season count.
+    #[tactic(auto, unfolding(paper::specs::Setup::growing))]
     pub fn grows(self, day_of_year: u32) -> bool
         ensures { result ≡ growing (season_as self) day_of_year }
     {
@@ -71,6 +74,7 @@ impl Season {
 }
 
 impl Setpoints {
+    #[tactic(auto, unfolding(paper::specs::Setup::setpoints_fit))]
     pub fn fit(self) -> bool
         ensures { result ≡ setpoints_fit (setpoints_as self) }
     {
@@ -80,6 +84,7 @@ impl Setpoints {
 }
 
 impl Climate {
+    #[tactic(auto, unfolding(paper::specs::Setup::climate_fits))]
     pub fn fits(self) -> bool
         ensures { result ≡ climate_fits (climate_as self) }
     {

@@ -22,18 +22,21 @@ pub fn depth(cell: u32) -> Depth
     Depth(cell as u64)
 }
 
+#[tactic(auto, unfolding(paper::specs::Refusals::one_each))]
 pub fn setup_each(n: usize, direction: usize, cover: usize, group: usize, available: usize) -> bool
     ensures { result ≡ one_each n (direction ∷ cover ∷ group ∷ available ∷ []) }
 {
     (direction == n) & ((cover == n) & ((group == n) & ((available == n) & true)))
 }
 
+#[tactic(auto, unfolding(paper::specs::Refusals::one_each))]
 pub fn stores_each(n: usize, soil: usize, snow: usize) -> bool
     ensures { result ≡ one_each n (soil ∷ snow ∷ []) }
 {
     (soil == n) & ((snow == n) & true)
 }
 
+#[tactic(auto, unfolding(paper::specs::Refusals::one_each))]
 pub fn results_each(
     n: usize,
     intercepted: usize,

@@ -33,6 +33,7 @@ pub struct Past {
 }
 
 impl Memory {
+    #[tactic(auto, unfolding(paper::specs::State::remembered))]
     pub fn next(self, gross: Depth) -> Memory
         ensures { memory_as result ≡ remembered (memory_as self) gross.0 }
     {
@@ -49,6 +50,7 @@ impl Memory {
         }
     }
 
+    #[tactic(auto, unfolding(paper::specs::State::memory_fits))]
     pub fn fits(self) -> bool
         ensures { result ≡ memory_fits (memory_as self) }
     {
@@ -62,6 +64,7 @@ impl Memory {
 }
 
 impl Last {
+    #[tactic(auto, unfolding(paper::specs::State::last_fits))]
     pub fn fits(self) -> bool
         ensures { result ≡ last_fits (last_as self) }
     {
@@ -72,6 +75,7 @@ impl Last {
     }
 
     // Test 8. One more than the last serial can pass 32 bits.
+    #[tactic(auto, unfolding(paper::specs::State::follows))]
     pub fn is_followed_by(self, serial: u32) -> bool
         ensures { result ≡ follows (last_as self) serial }
     {
@@ -116,6 +120,7 @@ impl Past {
         }
     }
 
+    #[tactic(auto, unfolding(paper::specs::State::past_fits))]
     pub fn fits(self) -> bool
         ensures { result ≡ past_fits (past_as self) }
     {

@@ -24,6 +24,7 @@ pub enum Verdict {
 }
 
 impl Refusal {
+    #[tactic(auto, unfolding(paper::specs::Refusals::number_of))]
     pub fn number(self) -> u32
         ensures { (result ≡ number_of (refusal_as self)) × (result ≤ 10) }
     {
@@ -41,6 +42,7 @@ impl Refusal {
         }
     }
 
+    #[tactic(auto, unfolding(paper::specs::Refusals::place_of))]
     pub fn place(self) -> usize
         ensures { result ≡ place_of (refusal_as self) }
     {
@@ -61,6 +63,7 @@ impl Refusal {
 
 impl Verdict {
     // 0 where it accepts.
+    #[tactic(auto, unfolding(paper::specs::Refusals::verdict_number))]
     pub fn number(self) -> u32
         ensures { (result ≡ verdict_number (verdict_as self)) × (result ≤ 10) }
     {
@@ -70,6 +73,7 @@ impl Verdict {
         }
     }
 
+    #[tactic(auto, unfolding(paper::specs::Refusals::verdict_place))]
     pub fn place(self) -> usize
         ensures { result ≡ verdict_place (verdict_as self) }
     {

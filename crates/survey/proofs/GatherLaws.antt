@@ -11,7 +11,6 @@ use lib.Dec.{eqb}
 use lib.ListN.{length, get_or, set, length-set}
 use lib.Seq.{get_or-set_same, get_or-set_other}
 use borrow.Author.Tests.{eqb-true, eqb-false}
-use Rattle.theory.specs.Lowest.{at}
 use Rattle.theory.proofs.Cases.{by_cases}
 use Rattle.survey.specs.Order.{waits, queued, Blank, Gathered, GatheredHeld}
 

@@ -13,7 +13,7 @@ use lib.ListN.{length, get_or, set, length-set}
 use lib.Seq.{get_or-set_same}
 use borrow.Author.Tests.{eqb-true, eqb-false, lt-ltb, le-ltb, le-leb, lt-leb, ltb-false}
 use Rattle.theory.specs.Sums.{given}
-use Rattle.theory.specs.Lowest.{at, lowest}
+use Rattle.theory.specs.Lowest.{lowest}
 use Rattle.theory.specs.Ways.{on_ring, OneWay}
 use Rattle.theory.proofs.Cases.{by_cases, below_or_not, and_second}
 use Rattle.theory.proofs.SumLaws.{sum_most, given_most}

@@ -17,6 +17,7 @@ pub enum Condition {
     III,
 }
 
+#[tactic(auto, unfolding(paper::specs::State::five_days))]
 fn five_days(memory: Memory) -> Depth
     requires { FiveFit (memory_as memory) }
     ensures { result.0 ≡ five_days (memory_as memory) }
@@ -53,6 +54,7 @@ pub(crate) fn condition_of(growing: bool, memory: Memory) -> Condition
     }
 }
 
+#[tactic(auto, unfolding(paper::specs::Frost::not_dry))]
 fn not_dry(condition: Condition) -> Condition
     ensures { condition_as result ≡ not_dry (condition_as condition) }
 {
@@ -77,6 +79,7 @@ pub(crate) fn counted_as(setpoints: Setpoints, index: FrostIndex, condition: Con
 }
 
 // Twice the numerator and the divisor once, over twice the divisor: halves go up.
+#[tactic(auto, unfolding(paper::specs::CurveNumber::nearest))]
 fn nearest(p: u64, q: u64) -> u64
     requires { (p < 4294967296) × (0 < q) × (q < 4294967296) }
     ensures { result ≡ rounded p q }
