@@ -2,7 +2,7 @@
 -- wrong, each has as many cells as the first, so that the lines of the cells read are those of the files' cells.
 use mathlib.Core.Bool.{◌&&◌}
 use mathlib.Core.List.{List}
-use mathlib.Core.Path.{◌≡◌, refl, ap}
+use mathlib.Core.Path.{◌≡◌, refl, ap, ◌∙◌}
 use Prim.Native.Nat.{ℕ, zero, suc, ◌+◌, ◌≤◌, ◌<◌}
 use native.Mathlib.Omega.{arith}
 use lib.Dec.{eqb, leb}
@@ -12,7 +12,7 @@ use lib.Seq.{sets, sets-eq}
 use borrow.Author.Tests.{eqb-true}
 use Rattle.theory.proofs.Cases.{and_left, and_right}
 use Rattle.paper.specs.Limits.{most_cells}
-use Rattle.paper.specs.Setup.{cells_of}
+use Rattle.paper.specs.Setup.{Grid, cells_of}
 use Rattle.words.specs.Words.{words}
 use Rattle.records.specs.Grids.{grid_as}
 use Rattle.grids.specs.Headers.{Header}
@@ -193,4 +193,6 @@ module _ {f : Files} {d c g w : List ℤ} {direction cover group water : Read} (
 
     pub text_read : setup_text (grid_as direction.header.grid) f.covers (cells_by d c g w) f.weather ≡ text_of f
     unfolding setup_text text_of
-    text_read = rw (grid_read, lines_same (cells_by d c g w) (cells_in f) cells line_read) refl
+    text_read =
+        ap (λ (grid : Grid). setup_text grid f.covers (cells_by d c g w) f.weather) grid_read
+        ∙ rw (lines_same (cells_by d c g w) (cells_in f) cells line_read) refl

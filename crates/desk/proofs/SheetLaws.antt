@@ -1,16 +1,12 @@
 -- Two texts of a header are compared byte by byte: from the loop's place on they are the same exactly if they are from the first.
 use mathlib.Core.Bool.{Bool, true, false}
-use mathlib.Core.List.{List, [], ◌∷◌}
+use mathlib.Core.List.{List}
 use mathlib.Core.Path.{◌≡◌, refl, sym, ap, ◌∙◌}
-use Prim.Native.Nat.{ℕ, suc, ◌+◌, ◌≤◌, ◌<◌}
-use native.Mathlib.Numerals.{add-one}
+use Prim.Native.Nat.{ℕ, ◌+◌, ◌≤◌, ◌<◌}
 use native.Mathlib.Omega.{arith}
-use lib.Dec.{eqb}
-use lib.ListN.{length, get_or, drop, drop_of_length-le}
-use lib.Seq.{drop-cons}
-use borrow.Author.Tests.{eq-eqb, ne_eqb}
+use lib.ListN.{length, get_or}
 use Rattle.theory.specs.Lists.{made}
-use Rattle.theory.proofs.Cases.{by_cases, below_or_not}
+use Rattle.theory.proofs.Cases.{below_or_not}
 use Rattle.theory.proofs.ListLaws.{made_length, made_at}
 use Rattle.grids.specs.Headers.{same}
 use Rattle.grids.specs.Measures.{most_characters}

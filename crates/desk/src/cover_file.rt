@@ -44,6 +44,7 @@ fn cover_count(text: &[u8]) -> u32
     }
 }
 
+#[tactic(auto, unfolding(crate::specs::CoverFile::is_cover_file))]
 pub(crate) fn is_cover_file(text: &[u8]) -> bool
     ensures { result ≡ is_cover_file text.now }
 {

@@ -32,6 +32,7 @@ impl Tested {
         }
     }
 
+    #[tactic(auto, unfolding(crate::specs::Faults::unless))]
     pub(crate) fn unless(fits: bool, fault: Fault) -> Tested
         ensures { result ≡ unlessFits fits fault }
     {

@@ -39,6 +39,7 @@ fn same_text(text: Measure, other: Measure) -> bool
     true
 }
 
+#[tactic(auto, unfolding(crate::specs::Sheets::test_read))]
 fn test_read(file: u32, grid: Read) -> Tested
     ensures { result ≡ test_read file (verdict_as grid.verdict) }
 {
@@ -65,6 +66,7 @@ fn same_corner(header: Header, first: Header) -> bool
     same_text(x, first_x) & same_text(y, first_y)
 }
 
+#[tactic(auto, unfolding(crate::specs::Sheets::test_match))]
 fn test_match(file: u32, grid: Read, first: Read) -> Tested
     ensures { result ≡ test_match file (header_as grid.header) (header_as first.header) }
 {
