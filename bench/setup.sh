@@ -16,7 +16,7 @@ export LC_ALL
 PLAIN="$PLAIN plain_text"
 RATTLE_HOME=${RATTLE_HOME:-$(kit_folder)} # looked up once
 mode=${1:-check} copies=${2:-240}
-program=target/bin/setup
+program=crates/setup/out/setup
 valley='examples/valley/direction.asc examples/valley/cover.asc examples/valley/group.asc examples/valley/water.asc examples/valley/covers.txt examples/valley/weather.txt'
 desk=$made/desk # its files are called 1 to 6, as the arguments count
 file=$made/desk/file
