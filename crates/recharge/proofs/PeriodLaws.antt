@@ -18,7 +18,7 @@ use Rattle.theory.proofs.Cases.{below_or_not, and_both, cond_true, cond_false}
 use Rattle.theory.proofs.ListLaws.{made_at, made_length, sets_append}
 use Rattle.paper.specs.Setup.{Setup, cells}
 use Rattle.paper.specs.State.{State, Day, fresh_state}
-use Rattle.paper.specs.Refusals.{Refusal, Verdict, accepted, refused, one_each}
+use Rattle.paper.specs.Refusals.{Refusal, accepted, refused, one_each}
 use Rattle.paper.specs.Day.{Results, Totals, Outcome, day_of}
 use Rattle.paper.specs.Run.{start, days}
 use Rattle.paper.specs.Period.{fresh_run, after, outcome_on, AllAccepted, summed}

@@ -1,6 +1,7 @@
 -- A day of a setup that its survey has passed: tests 7 to 10, asked by the slots that the survey left, are what is left of the ten.
 use mathlib.Core.Bool.{true}
 use mathlib.Core.List.{List}
+use lib.ListN.{replicate}
 use mathlib.Core.Path.{◌≡◌, refl, sym, ap, ◌∙◌}
 use Prim.Native.Nat.{ℕ}
 use Rattle.paper.specs.Setup.{Setup, cells}
@@ -15,12 +16,20 @@ use Rattle.records.specs.declared.verdicts.Verdict.TheVariants.{Accepted}
 use Rattle.weather.specs.Today.{weather_of}
 use Rattle.weather.proofs.TodayLaws.{today_fits}
 use Rattle.covers.specs.Plots.{plots_of}
+use Rattle.survey.specs.Charts.{Mapped}
 use Rattle.stores.specs.States.{lent_tests}
 use Rattle.stores.proofs.TestLaws.{Testable}
 use Rattle.admission.specs.Tests.{later_tests}
 use Rattle.admission.proofs.TestLaws.{two_each, later_paper, lent_decides, survey_decides, day_decides}
 use Rattle.recharge.specs.Surveyed.{DayReady, lent_lengths}
 use Rattle.recharge.proofs.AnswerLaws.{refused_answer}
+
+-- what a survey into arrays of zeros leaves, and lists with one entry a cell, are what a day asks for
+pub surveyed_ready : (s : Setup) (st : State) (r : Results) {slots ways order : List ℕ} → check_of s ≡ accepted
+    → Mapped s (replicate 4096 0) (replicate 4096 0) slots ways order → one_each (cells s) (lent_lengths st r) ≡ true
+    → DayReady s slots ways order st r
+surveyed_ready s st r passed mapped each =
+    record { passed = passed; slots₀ = replicate 4096 0; ways₀ = replicate 4096 0; mapped = mapped; each = each }
 
 module _ (s : Setup) (st : State) (r : Results) (d : Day) (slots ways order : List ℕ) (ok : DayReady s slots ways order st r) where
   tests_left : verdict_of s st r d ≡ verdict (day_tests s st d)

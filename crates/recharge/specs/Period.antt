@@ -2,7 +2,7 @@
 use Rattle.std.specs.Prelude.{Bool, cond, ◌&&◌, List, [], ◌∷◌, ◌++◌, ◌≡◌, ℕ, ◌+◌, ◌*◌, ◌/◌, ◌%◌, ◌≤◌, ◌<◌, eqb, ltb, ℤ, length, get_or}
 use Rattle.std.proofs.lemmas.List.Edits.{sets}
 use Rattle.paper.specs.Setup.{Setup, cells, grid_fits}
-use Rattle.paper.specs.State.{State, Day, Past, fresh_state, no_past}
+use Rattle.paper.specs.State.{State, Day, fresh_state, no_past}
 use Rattle.paper.specs.Refusals.{Refusal, Verdict, accepted, refused, grid, lent, single, verdict, one_each, setup_lengths, map_tests}
 use Rattle.paper.specs.Day.{Results, check_of}
 use Rattle.paper.specs.Period.{fresh_run, after, outcome_on, AllAccepted, summed}

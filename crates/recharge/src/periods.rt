@@ -167,6 +167,7 @@ fn run(
 }
 
 // Test 2 of the lists that come with the days: whole days, five sums a cell, and as many totals as numbers of days.
+#[tactic(auto, unfolding(crate::specs::Period::lists_fit))]
 fn lists_fit(n: usize, days: usize, sums: usize, totals: usize) -> bool
     requires { n ≤ 4096 }
     ensures { result ≡ lists_fit n days sums totals }
