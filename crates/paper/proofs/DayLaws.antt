@@ -20,7 +20,7 @@ use Rattle.paper.specs.State.{State, Day, most_soil_of, most_snow_of, soil_at, s
 use Rattle.paper.specs.CurveNumber.{curve_number}
 use Rattle.paper.specs.CellDay.{Today, today, rain_of, store_of, melt_of}
 use Rattle.paper.specs.Flow.{water}
-use Rattle.paper.specs.Refusals.{Refusal, Verdict, accepted, refused, verdict, single, one_each, setup_lengths, setup_tests, map_tests, state_fits, too_deep, day_tests}
+use Rattle.paper.specs.Refusals.{Refusal, Verdict, accepted, refused, single, one_each, setup_lengths, setup_tests, map_tests, state_fits, too_deep, day_tests}
 use Rattle.paper.specs.Day.{own, passed, inflow, figures, Results, no_totals, next_state, lengths_of, verdict_of, figures_of, outcome_as, day_of}
 use Rattle.paper.proofs.SnowLaws.{melt_most}
 use Rattle.paper.proofs.CurveNumberLaws.{curve_number_limits}

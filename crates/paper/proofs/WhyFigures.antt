@@ -3,7 +3,7 @@
 -- or a lake.
 use mathlib.Core.Path.{◌≡◌, refl}
 use mathlib.Core.List.{List, [], ◌∷◌, ◌++◌}
-use Prim.Native.Nat.{ℕ, ◌+◌}
+use Prim.Native.Nat.{ℕ}
 use lib.IntN.{ℤ, pos}
 use Rattle.theory.specs.Lowest.{or_at, lowest, is_found, some}
 use Rattle.theory.specs.Sums.{sum, given}
@@ -20,7 +20,7 @@ use Rattle.paper.specs.Runoff.{beyond_abstraction, spread, runoff}
 use Rattle.paper.specs.Soil.{excess, wet_day, dry_day, soil_day}
 use Rattle.paper.specs.CellDay.{today, figure_of, intercepted_of, net_of, rain_of, store_of, melt_of, own_of, runoff_of, ground_of, passed_of, open_day, land_day, cell_day}
 use Rattle.paper.specs.Flow.{arriving, water_from, water}
-use Rattle.paper.specs.Refusals.{cell_numbers, ring, climate, day_record, grid, single, judged, verdict, one_each, setup_lengths, cover_places, cover_fits, state_fits, too_deep, day_tests}
+use Rattle.paper.specs.Refusals.{cell_numbers, ring, climate, day_record, single, judged, verdict, one_each, setup_lengths, cover_places, cover_fits, state_fits, too_deep, day_tests}
 use Rattle.paper.specs.Day.{passed, own, inflow}
 use Rattle.paper.specs.Reasons.{
   facts_for,

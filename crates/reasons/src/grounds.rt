@@ -40,6 +40,7 @@ fn number_of(covers: &[u32], entry: usize, k: usize) -> u32
     covers[at]
 }
 
+#[tactic(auto, unfolding(crate::specs::Grounds::ground_by))]
 pub(crate) fn ground_of(covers: &[u32], code: u32, group: u32, available: u32) -> Ground
     ensures { ground_as result ≡ ground_by covers.now code group available }
 {

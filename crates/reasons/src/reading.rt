@@ -76,6 +76,7 @@ fn ran_off(day: Left) -> Depth
 }
 
 // From the soil before the day and what it left.
+#[tactic(auto, unfolding(crate::specs::Reading::facts_from))]
 pub(crate) fn facts_of(
     ground: Ground,
     gross: Depth,

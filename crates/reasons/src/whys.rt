@@ -24,6 +24,7 @@ pub enum Why {
 
 impl Why {
     // 1 to 7, and 0 for a refusal.
+    #[tactic(auto, unfolding(crate::specs::Whys::why_number, paper::specs::Reasons::reason_number))]
     pub fn number(self) -> u32
         ensures { (result ≡ why_number (why_as self)) × (result ≤ 7) }
     {
@@ -40,6 +41,7 @@ impl Why {
     }
 
     // Its two depths; 0 for a refusal.
+    #[tactic(auto, unfolding(crate::specs::Whys::first_depth))]
     pub fn first(self) -> Depth
         ensures { result.0 ≡ first_depth (why_as self) }
     {
@@ -55,6 +57,7 @@ impl Why {
         }
     }
 
+    #[tactic(auto, unfolding(crate::specs::Whys::second_depth))]
     pub fn second(self) -> Depth
         ensures { result.0 ≡ second_depth (why_as self) }
     {
@@ -71,6 +74,7 @@ impl Why {
     }
 
     // Whether there is a reason: the verdict on the day and the cell.
+    #[tactic(auto, unfolding(crate::specs::Whys::why_verdict))]
     pub fn verdict(self) -> Verdict
         ensures { verdict_as result ≡ why_verdict (why_as self) }
     {

@@ -5,7 +5,7 @@ use Rattle.desk.proofs.answers.write_text.Goals as goal
 
 pub returns-then-output-end : goal.returns-then-output-end
 returns-then-output-end c =
-    too_long _ _ _ _ (omega arith) c.put_text-end.ensures c.if-output-end.true
+    too_long _ _ _ _ (omega arith) c.put_text-end.ensures (omega arith)
 
 pub returns : goal.returns
 returns c =

@@ -1,6 +1,6 @@
 -- `cells::lay_cells` meets its contract: the cells passed so far have their slots and their ways, with the row and the column beside the cell's
 -- number, and are counted where they lead. A slot that was found has its entry in the table.
-use Rattle.std.proofs.Common.{◌≡◌, sym, ap, ◌∙◌, ℕ, ◌+◌, ◌*◌, ◌/◌, ◌≤◌, arith, length, eq-eqb}
+use Rattle.std.proofs.Common.{◌≡◌, sym, ap, ◌∙◌, ℕ, ◌+◌, ◌*◌, ◌/◌, ◌≤◌, arith, rules, length, eq-eqb}
 use Rattle.theory.proofs.ListLaws.{over_length, over_room}
 use Rattle.paper.specs.Covers.{entries}
 use Rattle.survey.specs.Order.{wait_for}
@@ -12,14 +12,17 @@ use Rattle.survey.proofs.cells.lay_cells.Goals.{Else-found-eq-NO_SLOT, then-colu
 use Rattle.survey.proofs.cells.lay_cells.Goals as goal
 
 pub none_waiting-requires : goal.none_waiting-requires
-none_waiting-requires c = let p = c.requires in rw (p.coded, c.none_waiting-arg-1.given.0.1) p.few
+none_waiting-requires c =
+    let sized : length c.args.order.now ≡ 4096 = search rules in
+    rw (c.requires.coded, sized) c.requires.few
 
 pub loop-i-init : goal.loop-i-init
-loop-i-init c = (
-  c.requires.coded,
-  laid_none _ _ _ _ _ _ _ _ c.requires.wide
-      (rw (c.none_waiting.ensures, c.requires.coded) (count_none _ c.none_waiting-arg-1.given.0.1 c.requires.few)),
-)
+loop-i-init c =
+    let sized : length c.args.order.now ≡ 4096 = search rules in (
+      c.requires.coded,
+      laid_none _ _ _ _ _ _ _ _ c.requires.wide
+          (rw (c.none_waiting.ensures, c.requires.coded) (count_none _ sized c.requires.few)),
+    )
 
 pub slot-found-requires : goal.slot-found-requires
 slot-found-requires c = c.requires.indexed

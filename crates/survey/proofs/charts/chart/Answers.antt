@@ -1,5 +1,5 @@
 -- `charts::chart` meets its contract: each way out has what the tests before it found, and where all pass the arrays are those of the setup.
-use Rattle.std.proofs.Common.{[], ◌∷◌, ◌≡◌, sym, ◌∙◌}
+use Rattle.std.proofs.Common.{[], ◌∷◌, length, rules, ◌≡◌, sym, ◌∙◌}
 use Rattle.paper.specs.Setup.{Setup}
 use Rattle.paper.specs.Refusals.{verdict, accepted, cover_test}
 use Rattle.records.specs.Grids.{setup_as}
@@ -24,37 +24,49 @@ table t = accepted_back _ (sym t.in-Accepted.is ∙ t.read_covers-table.ensures.
 
 pub lay_cells-cell-requires : goal.lay_cells-cell-requires
 lay_cells-cell-requires c =
+    let slots_sized : length c.args.slots.now ≡ 4096 = search rules in
+    let ways_sized : length c.args.ways.now ≡ 4096 = search rules in
     lay_ask (setup (goal.at.lay_cells-cell-requires c).Start) _ _ c.requires (table (goal.at.lay_cells-cell-requires c).In-Accepted) _ (c.read_covers-table.ensures.indexed (table (goal.at.lay_cells-cell-requires c).In-Accepted))
-    c.lay_cells-arg-1.given.0.1 c.lay_cells-arg-2-1.given.0.1
+    slots_sized ways_sized
 
 pub returns-in-At : goal.returns-in-At
 returns-in-At c =
+    let slots_sized : length c.args.slots.now ≡ 4096 = search rules in
+    let ways_sized : length c.args.ways.now ≡ 4096 = search rules in
     cell_refuses (setup (goal.at.returns-in-At c).Start) _ _ c.requires (table (goal.at.returns-in-At c).In-Accepted) _ (c.read_covers-table.ensures.indexed (table (goal.at.returns-in-At c).In-Accepted))
-    c.lay_cells-arg-1.given.0.1 c.lay_cells-arg-2-1.given.0.1
+    slots_sized ways_sized
     _ _ _ _ c.lay_cells-cell.ensures _ _ c.in-At.is
 
 pub put_in_order-ring-requires : goal.put_in_order-ring-requires
 put_in_order-ring-requires c =
+    let slots_sized : length c.args.slots.now ≡ 4096 = search rules in
+    let ways_sized : length c.args.ways.now ≡ 4096 = search rules in
     order_ask (setup (goal.at.put_in_order-ring-requires c).Start) _ _ c.requires (table (goal.at.put_in_order-ring-requires c).In-Accepted) _ (c.read_covers-table.ensures.indexed (table (goal.at.put_in_order-ring-requires c).In-Accepted))
-    c.lay_cells-arg-1.given.0.1 c.lay_cells-arg-2-1.given.0.1
+    slots_sized ways_sized
     _ _ _ _ c.lay_cells-cell.ensures c.in_default-cell.is
 
 pub returns-in-At-ring : goal.returns-in-At-ring
 returns-in-At-ring c =
+    let slots_sized : length c.args.slots.now ≡ 4096 = search rules in
+    let ways_sized : length c.args.ways.now ≡ 4096 = search rules in
     ring_refuses (setup (goal.at.returns-in-At-ring c).Start) _ _ c.requires (table (goal.at.returns-in-At-ring c).In-Accepted) _ (c.read_covers-table.ensures.indexed (table (goal.at.returns-in-At-ring c).In-Accepted))
-    c.lay_cells-arg-1.given.0.1 c.lay_cells-arg-2-1.given.0.1
+    slots_sized ways_sized
     _ _ _ _ c.lay_cells-cell.ensures c.in_default-cell.is _ _ c.put_in_order-ring.ensures _ c.in-At-ring.is
 
 pub returns-then-not-fits : goal.returns-then-not-fits
 returns-then-not-fits c =
+    let slots_sized : length c.args.slots.now ≡ 4096 = search rules in
+    let ways_sized : length c.args.ways.now ≡ 4096 = search rules in
     climate_refuses (setup (goal.at.returns-then-not-fits c).Start) _ _ c.requires (table (goal.at.returns-then-not-fits c).In-Accepted) _ (c.read_covers-table.ensures.indexed (table (goal.at.returns-then-not-fits c).In-Accepted))
-    c.lay_cells-arg-1.given.0.1 c.lay_cells-arg-2-1.given.0.1
+    slots_sized ways_sized
     _ _ _ _ c.lay_cells-cell.ensures c.in_default-cell.is _ _ c.put_in_order-ring.ensures c.in_default-ring.is
     (sym c.fits.ensures ∙ c.if-not-fits.true)
 
 pub returns : goal.returns
 returns c =
+    let slots_sized : length c.args.slots.now ≡ 4096 = search rules in
+    let ways_sized : length c.args.ways.now ≡ 4096 = search rules in
     surveyed (setup (goal.at.returns c).Start) _ _ c.requires (table (goal.at.returns c).In-Accepted) _ (c.read_covers-table.ensures.indexed (table (goal.at.returns c).In-Accepted))
-    c.lay_cells-arg-1.given.0.1 c.lay_cells-arg-2-1.given.0.1
+    slots_sized ways_sized
     _ _ _ _ c.lay_cells-cell.ensures c.in_default-cell.is _ _ c.put_in_order-ring.ensures c.in_default-ring.is
     (sym c.fits.ensures ∙ c.if-not-fits.false)

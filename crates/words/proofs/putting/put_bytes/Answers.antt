@@ -1,8 +1,6 @@
 -- `putting::put_bytes` meets its contract: as many bytes are put as the loop has passed.
-use Prim.Native.Nat.{◌-◌}
 use native.Mathlib.Omega.{arith}
 use borrow.Author.Rules.{rules}
-use lib.ListN.{length}
 use Rattle.words.proofs.WritingLaws.{put_length, put_none, put_next, put_all}
 use Rattle.words.proofs.putting.put_bytes.Goals as goal
 

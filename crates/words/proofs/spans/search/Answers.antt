@@ -1,9 +1,7 @@
 -- `spans::search` meets its contract: what stands before the first such byte from `from` on is what the loop has passed and what stands before it from its
 -- place on.
 use mathlib.Core.Path.{refl, sym, ◌∙◌}
-use Prim.Native.Nat.{◌-◌}
 use native.Mathlib.Omega.{arith}
-use Rattle.words.specs.Spans.{before}
 use Rattle.words.proofs.WordLaws.{before_more, before_stop, before_end}
 use Rattle.words.proofs.spans.search.Goals as goal
 

@@ -1,4 +1,4 @@
--- `faults::Tested::then` meets its contract: each case is one of the paper's.
+-- `faults::Tested::then` meets its contract: by whether there is a fault before.
 use Rattle.std.proofs.Common.{refl}
 use Rattle.desk.specs.Faults.{◌then◌}
 use Rattle.desk.proofs.faults.Tested.then.Goals as goal
