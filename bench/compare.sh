@@ -9,8 +9,8 @@
 # the library are held to binary64 worked out in integers, of readings at every limit, beside it and of odd bits. Nor Arc grids: what
 # the two read and write, in many forms and damaged, is held to what the damage foretells, every lent cell and byte of it. Nor lists of
 # days in one call: every sum and total of the library's is held to single days of the plain C. A difference
-# prints its seed and fails. It proves the library first where it is not proved yet, which takes minutes. After `rt ci` or
-# `rt check` only `clib` and `cperiod` are proved once more, on their way to the archives, in under a minute; the rest takes seconds.
+# prints its seed and fails. It proves the library first where no check has kept its proof in out/, which takes
+# minutes (what `rt ci` proves it keeps elsewhere); the rest takes seconds.
 #
 # PROVED=no leaves the proved library out. Another implementation of balance.h, with the prefix other_, stands in for it by
 #     THIRD=other THIRD_TEXT=other THIRD_OBJECTS="path/other.o ..." ./compare.sh

@@ -1,19 +1,26 @@
 #!/bin/sh
 # A quantity handed over where another belongs must not compile: each ordered pair of Depth, TenthF, CurveNumber and FrostIndex, as
 # a parameter, and each wrong quantity in the day record's gross precipitation (a Depth) and mean temperature (a TenthF) and as a
-# setpoint (a FrostIndex). Each try is a crate of its own in a temporary folder. The right quantity must be proved; a wrong one
+# setpoint (a FrostIndex). Each try is a crate over copies of the library's in a temporary folder. The right quantity must be proved; a wrong one
 # must be refused, once, by the compiler's type error and nothing else.
 set -eu
 cd "$(dirname "$0")/.."
-[ -e target/rlib/recharge.rlib ] || rt check recharge
 work=$(mktemp -d)
 trap 'rm -rf "$work"' EXIT
-mkdir -p "$work/mixup/src"
-source=$work/mixup/src/lib.rt
+source=$work/crates/mixup/src/lib.rt
+
+# The library and what it stands on, and the crate of the tries above them.
+below=$(sed -n 's/^recharge: //p' crates.txt)
+mkdir -p "$work/crates/mixup/src"
+: >"$work/crates.txt"
+for crate in recharge $below; do
+    grep "^$crate:" crates.txt >>"$work/crates.txt"
+    tar -cf - --exclude="crates/$crate/out" "crates/$crate" | tar -xf - -C "$work"
+done
+echo "mixup: recharge $below" >>"$work/crates.txt"
 
 check() { # what the toolchain says of the crate
-    rt check "$work/mixup" --extern "recharge=$PWD/target/rlib/recharge.rlib" --extern "records=$PWD/target/rlib/records.rlib" \
-        -L "dependency=$PWD/target/rlib" >"$work/said" 2>&1
+    (cd "$work/crates/mixup" && rt check) >"$work/said" 2>&1
 }
 
 parameter() { # NAME WANTED GIVEN: a function that wants one quantity, and one that hands it the other

@@ -22,7 +22,7 @@ compared=0 explained=0
 # its line, to be counted.
 answer() { # TEXT
     $made/plain_potential < "$1" > $made/potential.out 2> $made/potential.said || wrong "$1: the plain C fails"
-    loaded target/bin/potential < "$1" > $made/got.out 2> $made/got.said || : # it has no status to compare
+    loaded crates/potential/out/potential < "$1" > $made/got.out 2> $made/got.said || : # it has no status to compare
     cmp $made/potential.out $made/got.out || wrong "$1: standard output differs"
     cmp $made/potential.said $made/got.said || wrong "$1: standard error differs"
     paste -d ' ' $made/potential.out "$1" >> $made/potential.all
@@ -373,10 +373,10 @@ program_itself() {
     said 'a folder as the file' '^potential: standard input: Is a directory$'
     attempt ./run potential < examples
     expect 'a folder as standard input' 2 /dev/null something
-    attempt loaded target/bin/potential < /proc/self/mem
+    attempt loaded crates/potential/out/potential < /proc/self/mem
     expect 'a read that fails in the program' 0 /dev/null something
     said 'a read that fails in the program' '^potential: standard input: Input/output error$'
-    attempt full_disk loaded target/bin/potential < examples/year/readings.txt
+    attempt full_disk loaded crates/potential/out/potential < examples/year/readings.txt
     said 'the program on a full disk' '^potential: standard output: No space left on device$'
 }
 

@@ -196,12 +196,12 @@ program_itself() {
     said 'a folder as standard input' '^balance: standard input: Is a directory$'
     attempt ./run examples
     expect 'a folder as the file' 2 /dev/null something
-    attempt loaded target/bin/balance < /proc/self/mem
+    attempt loaded crates/balance/out/balance < /proc/self/mem
     cmp $made/got.out /dev/null || wrong 'a read that fails: the program prints something'
     said 'a read that fails in the program' '^balance: standard input: Input/output error$'
-    attempt loaded target/bin/balance < examples/ridge.txt
+    attempt loaded crates/balance/out/balance < examples/ridge.txt
     expect 'the program by its loader' 0 examples/ridge.out nothing
-    attempt full_disk loaded target/bin/balance < examples/ridge.txt
+    attempt full_disk loaded crates/balance/out/balance < examples/ridge.txt
     said 'the program on a full disk' '^balance: standard output: No space left on device$'
 }
 
@@ -278,10 +278,10 @@ asked_wrongly() {
     attempt ./run why examples 0
     expect 'why: a folder' 2 /dev/null something
     said 'why: a folder' '^why: standard input: Is a directory$'
-    attempt loaded target/bin/why < examples/ridge.txt
+    attempt loaded crates/why/out/why < examples/ridge.txt
     expect 'why itself without a cell' 0 /dev/null something
     said 'why itself without a cell' '^usage: why CELL \[SERIAL\] < TEXT$'
-    attempt full_disk loaded target/bin/why 0 < examples/ridge.txt
+    attempt full_disk loaded crates/why/out/why 0 < examples/ridge.txt
     said 'why itself on a full disk' '^why: standard output: No space left on device$'
 }
 

@@ -16,7 +16,7 @@ export LC_ALL
 PLAIN="$PLAIN plain_text"
 RATTLE_HOME=${RATTLE_HOME:-$(kit_folder)} # looked up once
 mode=${1:-check} copies=${2:-240}
-program=target/bin/setup
+program=crates/setup/out/setup
 valley='examples/valley/direction.asc examples/valley/cover.asc examples/valley/group.asc examples/valley/water.asc examples/valley/covers.txt examples/valley/weather.txt'
 desk=$made/desk # its files are called 1 to 6, as the arguments count
 file=$made/desk/file
@@ -403,7 +403,7 @@ names() {
         desk_with $place '' 1 $made/no-such-file # which comes before any file is opened
         desk_with $place "$(printf '%0300d' 0)"
     done
-    for name in "a file's name" '-' '--help' '%s%n' "$(printf 'x\r\377')" 'a: refused 12 at 0'; do
+    for name in "a file's name" '-' '--help' '%s%n' "$(printf 'x\r\303\277')" 'a: refused 12 at 0'; do
         desk_with 2 "$desk/$name"
         cp $desk/2 "$desk/$name"
         desk_with 2 "$desk/$name"
@@ -413,6 +413,13 @@ names() {
         says "setup: $desk/$name: refused 12 at 0"
         rm "$desk/$name"
     done
+    # a name that is no text in UTF-8 cannot be opened by Rattle's std, where the plain C opens it: it is said with a mark in the place of such bytes
+    name=$(printf 'x\r\377')
+    cp $desk/2 "$desk/$name"
+    attempt loaded $program $desk/1 "$desk/$name" $desk/3 $desk/4 $desk/5 $desk/6
+    expect 'a name that is no text' 0 /dev/null something
+    [ "$(cat $made/got.said)" = "setup: $desk/$(printf 'x\r\357\277\275'): invalid filename" ] || wrong "a name that is no text: it says $(cat $made/got.said)"
+    rm "$desk/$name"
 }
 
 arguments() {

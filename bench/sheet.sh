@@ -14,7 +14,7 @@ export LC_ALL
 PLAIN="$PLAIN plain_text"
 RATTLE_HOME=${RATTLE_HOME:-$(kit_folder)} # looked up once
 copies=${1:-10}
-program=target/bin/sheet
+program=crates/sheet/out/sheet
 names='direction.asc cover.asc group.asc water.asc covers.txt weather.txt'
 sheets='recharge.asc evapotranspiration.asc outflow.asc interception.asc rejected.asc soil.asc snow.asc days.txt sheet.txt recharge.svg'
 place=$made/folder # the folder that is tried

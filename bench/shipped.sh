@@ -1,13 +1,13 @@
 #!/bin/sh
 # shipped.sh [CASES [TEXTS [SEED]]]: compares the archives that are shipped, for x86-64, on a machine with another processor.
 #
-# There compare.sh compares code that native.sh made for the machine's own processor. This takes the archives themselves, as `rt staticlib` wrote them.
+# There compare.sh compares code that native.sh made for the machine's own processor. This takes the archives themselves, as `rt lib` wrote them.
 # The C side is compiled for x86-64 by the toolchain's clang, linked by its linker with its C library, and run under its emulator, as
 # rt runs programs. The headers are those that cc reads here: of what is used, they say the same on every 64-bit Linux.
 # A tool that is missing fails the comparison, which is never left out: rt runs no program of this repository without them either.
 set -eu
 cd "$(dirname "$0")"
-archives='../target/staticlib/libclib.a ../target/staticlib/libcperiod.a' made=build/x86-64
+archives='../crates/clib_c/out/libclib_c.a ../crates/cperiod/out/libcperiod.a' made=build/x86-64
 mkdir -p $made
 . ./files.sh
 kit=${RATTLE_HOME:-$(cd "$(dirname "$(readlink -f "$(command -v rt)")")/.." && pwd -P)}

@@ -15,7 +15,7 @@ from pathlib import Path
 ROOT = Path(__file__).resolve().parent.parent
 SWAPS = [("ltb", "leb"), ("leb", "ltb"), ("lt", "le"), ("le", "lt"), ("&&", "||"), ("||", "&&"), (" + ", " - "), (" - ", " + "), (" +ℤ ", " -ℤ "), (" -ℤ ", " +ℤ "),
          (" ⊕ ", " ⊖ "), (" ⊖ ", " ⊕ "), (" ⊗ ", " ⊘ "), (" ⊘ ", " ⊗ "), ("true", "false"), ("false", "true")]
-SCOPE = {"mathlib.Core.Bool": ["true", "false", "_&&_", "_||_"], "lib.Dec": ["leb", "ltb"], "Prim.Native.Nat": ["_+_", "_-_"], "lib.IntN": ["_+ℤ_", "_-ℤ_"]}
+SCOPE = {"Rattle.std.specs.Prelude": ["true", "false", "◌&&◌", "◌||◌", "leb", "ltb", "◌+◌", "◌-◌", "◌+ℤ◌", "◌-ℤ◌"]}
 
 
 def in_scope(text):
@@ -51,11 +51,11 @@ def main():
     files = sys.argv[2:]
     with tempfile.TemporaryDirectory() as room:
         for name in ("theory", "paper"):
-            shutil.copytree(ROOT / "crates" / name, Path(room) / "crates" / name)
+            shutil.copytree(ROOT / "crates" / name, Path(room) / "crates" / name, ignore=shutil.ignore_patterns("out"))
         (Path(room) / "crates.txt").write_text("theory:\npaper: theory\n")
 
         def holds():
-            return subprocess.run(["rt", "check", "paper"], cwd=room, capture_output=True).returncode == 0
+            return subprocess.run(["rt", "check"], cwd=Path(room) / "crates/paper", capture_output=True).returncode == 0
 
         tried = passed = count = 0
         for path in sorted((Path(room) / "crates/paper/specs").glob("*.antt")):

@@ -24,6 +24,6 @@ uname -m
 sed -n 's/^model name[^:]*: //p' /proc/cpuinfo | sed 1q
 $CC --version | sed 1q
 set -- "${1:-200}"
-program=$PWD/../target/bin/sheet
+program=$PWD/../crates/sheet/out/sheet
 if [ "$(uname -m)" = x86_64 ] && [ -x "$program" ]; then set -- "$1" "$program"; fi
 build/speed "$@"

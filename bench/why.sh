@@ -28,7 +28,7 @@ ask() { # TEXT [ARGUMENT..]
     text=$1
     shift
     $made/plain_why "$@" < "$text" > $made/why.out 2> $made/why.said || : # the other has no status to compare
-    loaded target/bin/why "$@" < "$text" > $made/got.out 2> $made/got.said || :
+    loaded crates/why/out/why "$@" < "$text" > $made/got.out 2> $made/got.said || :
     cmp $made/why.out $made/got.out || wrong "why $* < $text: standard output differs"
     cmp $made/why.said $made/got.said || wrong "why $* < $text: standard error differs"
     cat $made/why.out >> $made/why.all

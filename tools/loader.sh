@@ -1,5 +1,5 @@
 # shellcheck shell=sh
-# For the scripts that run a program of target/bin. They source this.
+# For the scripts that run a program of crates/NAME/out. They source this.
 
 # The kit's folder: rt stands in its bin/, perhaps behind links.
 kit_folder() {
@@ -7,11 +7,11 @@ kit_folder() {
     dirname "$(dirname "$(readlink -f "$rt")")"
 }
 
-# Runs a program as `rt` itself does: by the loader of the kit's toolchain. The program is for x86-64; on another processor it runs under the
-# emulator that the toolchain has beside its compiler.
+# Runs a program by the loader of the kit's toolchain, with its C library. The program is for x86-64; on another processor it runs under the
+# emulator, where the toolchain has one beside its compiler.
 loaded() { # PROGRAM [ARGUMENT..]
     kit=${RATTLE_HOME:-$(kit_folder)}
-    toolchain=$kit/on/$(uname -m)/toolchain
+    toolchain=$kit/toolchain
     emulator=$toolchain/bin/qemu-x86_64
     [ -x "$emulator" ] || emulator=''
     ${emulator:+"$emulator"} "$toolchain/lib/ld-linux-x86-64.so.2" --library-path "$toolchain/lib" "$@"

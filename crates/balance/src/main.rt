@@ -14,20 +14,20 @@ fn output_room() -> [u8; MOST_TEXT]
     [0u8; MOST_TEXT]
 }
 
-fn print(text: &[u8]) {
-    if !io::write_all(libc::STDOUT_FILENO, text) {
-        os::fail(b"balance: standard output");
+fn print(rt: &(impl Print + Eprint), text: &[u8]) {
+    if let Err(error) = rt.write_all(text) {
+        intake::fail(rt, b"balance: standard output", error);
     }
 }
 
-fn main() {
+fn main(rt: HostRuntime) {
     let mut input = intake::input_room();
-    let Input::Bytes(count) = intake::read_input(b"balance: standard input", &mut input) else {
+    let Input::Bytes(count) = intake::read_input(&rt, b"balance: standard input", &mut input) else {
         return;
     };
     let mut output = output_room();
     match text::balance_text(&input[..count], &mut output) {
-        Written::Bytes(n) => print(&output[..n]),
+        Written::Bytes(n) => print(&rt, &output[..n]),
         Written::NoRoom => {}
     }
 }

@@ -9,8 +9,7 @@ use crate::given::{DayNumbers, Site, climate_of, grid_of, record_of};
 use crate::numbers::returned_as;
 use crate::state::{figures_of, index_kept, memory_kept, past_from, serial_kept};
 
-#[unsafe(no_mangle)]
-pub extern "C" fn recharge_check(
+pub fn recharge_check(
     site: Site,
     covers: &[u32],
     direction: &[u32],
@@ -26,8 +25,7 @@ pub extern "C" fn recharge_check(
     returned_as(recharge::check(grid, climate, covers, direction, cover, group, available))
 }
 
-#[unsafe(no_mangle)]
-pub extern "C" fn recharge_fresh(
+pub fn recharge_fresh(
     site: Site,
     covers: &[u32],
     direction: &[u32],
@@ -57,8 +55,7 @@ pub extern "C" fn recharge_fresh(
     returned_as(verdict)
 }
 
-#[unsafe(no_mangle)]
-pub extern "C" fn recharge_day(
+pub fn recharge_day(
     site: Site,
     covers: &[u32],
     direction: &[u32],

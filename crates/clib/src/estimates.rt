@@ -16,13 +16,7 @@ fn estimated(weather: Weather, potential: &mut u64) -> u64
     numbered(answer.number(), answer.place())
 }
 
-#[unsafe(no_mangle)]
-pub extern "C" fn recharge_turc(
-    mean: f64,
-    radiation: f64,
-    humidity: f64,
-    potential: &mut u64,
-) -> u64
+pub fn recharge_turc(mean: f64, radiation: f64, humidity: f64, potential: &mut u64) -> u64
     ensures { estimate result potential.new ≡ estimate_given (estimated_of (weather_from mean (turc radiation humidity))) }
 {
     let weather = Weather {
@@ -32,8 +26,7 @@ pub extern "C" fn recharge_turc(
     estimated(weather, potential)
 }
 
-#[unsafe(no_mangle)]
-pub extern "C" fn recharge_jensen_haise(mean: f64, radiation: f64, potential: &mut u64) -> u64
+pub fn recharge_jensen_haise(mean: f64, radiation: f64, potential: &mut u64) -> u64
     ensures { estimate result potential.new ≡ estimate_given (estimated_of (weather_from mean (jensen_haise radiation))) }
 {
     let weather = Weather {

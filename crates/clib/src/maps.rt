@@ -69,8 +69,7 @@ fn header_from(
 }
 
 // Refused, the numbers, the no-data number and the texts come back as zeros.
-#[unsafe(no_mangle)]
-pub extern "C" fn recharge_grid_read(
+pub fn recharge_grid_read(
     text: &[u8],
     cells: &mut [i32],
     numbers: &mut [u32; 5],
@@ -107,8 +106,7 @@ pub extern "C" fn recharge_grid_read(
     grid_returned(verdict)
 }
 
-#[unsafe(no_mangle)]
-pub extern "C" fn recharge_grid_write(
+pub fn recharge_grid_write(
     numbers: &[u32; 5],
     no_data: i32,
     x_corner: &[u8; 20],
@@ -130,8 +128,7 @@ pub extern "C" fn recharge_grid_write(
     grid_returned(verdict)
 }
 
-#[unsafe(no_mangle)]
-pub extern "C" fn recharge_grid_inches(
+pub fn recharge_grid_inches(
     numbers: &[u32; 5],
     no_data: i32,
     x_corner: &[u8; 20],

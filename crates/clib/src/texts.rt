@@ -4,8 +4,7 @@ ghost use Rattle.clib.specs.Texts.{Told};
 use text::Written;
 
 // How many bytes the text has; 0, which no text has, for a buffer that is too short.
-#[unsafe(no_mangle)]
-pub extern "C" fn recharge_text(input: &[u8], output: &mut [u8]) -> usize
+pub fn recharge_text(input: &[u8], output: &mut [u8]) -> usize
     ensures { Told input.now output.old output.new result }
 {
     let written = text::balance_text(input, output);

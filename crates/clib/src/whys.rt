@@ -21,8 +21,7 @@ fn told(why: Why) -> [u64; 3]
     [wide(why.number()), first, second]
 }
 
-#[unsafe(no_mangle)]
-pub extern "C" fn recharge_why(
+pub fn recharge_why(
     site: Site,
     covers: &[u32],
     direction: &[u32],

@@ -36,35 +36,43 @@ const GROUPS: [u32; 2] = [2, 2];
 
 const WATER: [u32; 2] = [200, 200];
 
-fn shown(n: u64) {
-    io::write_all(1, b" ");
-    io::print_decimal(1, n);
+fn put(rt: &impl Print, words: &[u8]) {
+    let _ = rt.write_all(words);
 }
 
-fn line(serial: u32, totals: Totals) {
-    io::print_decimal(1, serial as u64);
-    shown(totals.gross.0);
-    shown(totals.intercepted.0);
-    shown(totals.evapotranspired.0);
-    shown(totals.recharged.0);
-    shown(totals.rejected.0);
-    shown(totals.gone.0);
-    shown(totals.stored.0);
-    io::write_all(1, b"\n");
+fn put_number(rt: &impl Print, n: u64) {
+    let _ = rt.print(n);
+}
+
+fn shown(rt: &impl Print, n: u64) {
+    put(rt, b" ");
+    put_number(rt, n);
+}
+
+fn line(rt: &impl Print, serial: u32, totals: Totals) {
+    put_number(rt, serial as u64);
+    shown(rt, totals.gross.0);
+    shown(rt, totals.intercepted.0);
+    shown(rt, totals.evapotranspired.0);
+    shown(rt, totals.recharged.0);
+    shown(rt, totals.rejected.0);
+    shown(rt, totals.gone.0);
+    shown(rt, totals.stored.0);
+    put(rt, b"\n");
 }
 
 // Prints a day's answer, and hands on what the next day starts from.
-fn told(serial: u32, answer: Answer) -> Past {
+fn told(rt: &impl Print, serial: u32, answer: Answer) -> Past {
     let verdict = answer.verdict;
     let totals = answer.totals;
     match verdict {
-        Verdict::Accepted => line(serial, totals),
+        Verdict::Accepted => line(rt, serial, totals),
         Verdict::Refused(why) => {
-            io::write_all(1, b"refused");
-            shown(why.number() as u64);
-            io::write_all(1, b" at");
-            shown(why.place() as u64);
-            io::write_all(1, b"\n");
+            put(rt, b"refused");
+            shown(rt, why.number() as u64);
+            put(rt, b" at");
+            shown(rt, why.place() as u64);
+            put(rt, b"\n");
         }
     }
     answer.past
@@ -72,6 +80,7 @@ fn told(serial: u32, answer: Answer) -> Past {
 
 // One day of the two cells. What each cell gives besides its stores is in the totals, and is not looked at.
 fn day(
+    rt: &impl Print,
     soil: &mut [u32; 2],
     snow: &mut [u32; 2],
     past: Past,
@@ -106,10 +115,10 @@ fn day(
         past,
         record,
     );
-    told(serial, answer)
+    told(rt, serial, answer)
 }
 
-fn main() {
+fn main(rt: HostRuntime) {
     let mut soil = [0, 0];
     let mut snow = [0, 0];
     let start = recharge::fresh(
@@ -124,7 +133,7 @@ fn main() {
         &mut snow,
     );
     let past = start.past;
-    let past = day(&mut soil, &mut snow, past, 1, 150, 30900);
-    let past = day(&mut soil, &mut snow, past, 2, 151, 0);
-    day(&mut soil, &mut snow, past, 2, 152, 0);
+    let past = day(&rt, &mut soil, &mut snow, past, 1, 150, 30900);
+    let past = day(&rt, &mut soil, &mut snow, past, 2, 151, 0);
+    day(&rt, &mut soil, &mut snow, past, 2, 152, 0);
 }

@@ -2,7 +2,7 @@
 ghost use Rattle.std.specs.Prelude.{◌*◌, ◌≤◌, ◌≡◌};
 
 use crate::one_cell::{Ground, lived, remembered, weather};
-use crate::printing::{ended, shown};
+use crate::printing::{ended, put, shown};
 use records::wide;
 
 fn times(x: u64, y: u64) -> u64
@@ -52,19 +52,19 @@ fn taken(n: u32, sum: u64) -> u64 {
     read_off(wide(runoff))
 }
 
-fn converted(n: u32) {
-    io::write_all(1, b"curve");
-    shown(wide(n));
-    shown(taken(n, 13999));
-    shown(taken(n, 14000));
-    shown(taken(n, 21001));
-    ended();
+fn converted(rt: &impl Print, n: u32) {
+    put(rt, b"curve");
+    shown(rt, wide(n));
+    shown(rt, taken(n, 13999));
+    shown(rt, taken(n, 14000));
+    shown(rt, taken(n, 21001));
+    ended(rt);
 }
 
-pub(crate) fn curve_numbers() {
+pub(crate) fn curve_numbers(rt: &impl Print) {
     let mut n = 30;
     while n <= 100 {
-        converted(n);
+        converted(rt, n);
         n += 1;
     }
 }

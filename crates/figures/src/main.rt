@@ -16,12 +16,12 @@ use refusals::refusals;
 use retention::{capacity, retention};
 use winter::{melts, winter_days};
 
-fn main() {
-    curve_numbers();
-    retention();
-    capacity(200, 250);
-    winter_days();
-    melts();
-    frost_days();
-    refusals();
+fn main(rt: HostRuntime) {
+    curve_numbers(&rt);
+    retention(&rt);
+    capacity(&rt, 200, 250);
+    winter_days(&rt);
+    melts(&rt);
+    frost_days(&rt);
+    refusals(&rt);
 }

@@ -2,7 +2,7 @@
 ghost use Rattle.std.specs.Prelude.{◌≤◌};
 
 use crate::one_cell::{CLIMATE, remembered, weather};
-use crate::printing::{ended, shown};
+use crate::printing::{ended, put, shown};
 use records::{Grid, Verdict, wide};
 
 const TWO_CELLS: Grid = Grid {
@@ -11,15 +11,16 @@ const TWO_CELLS: Grid = Grid {
 };
 
 // The paper's number and place.
-fn told(verdict: Verdict) {
-    io::write_all(1, b"refused");
-    shown(wide(verdict.number()));
-    shown(verdict.place() as u64);
-    ended();
+fn told(rt: &impl Print, verdict: Verdict) {
+    put(rt, b"refused");
+    shown(rt, wide(verdict.number()));
+    shown(rt, verdict.place() as u64);
+    ended(rt);
 }
 
 // A dry day of two cells from this state; each holds 50,000 at most. Three of the eleven lent slices have these lengths.
 fn tried(
+    rt: &impl Print,
     directions: usize,
     soils: usize,
     results: usize,
@@ -55,17 +56,25 @@ fn tried(
         weather(0, 600, 700, 800, 0),
     );
     let verdict = answer.verdict;
-    told(verdict);
+    told(rt, verdict);
 }
 
-fn lent(directions: usize, soils: usize, results: usize)
+fn lent(rt: &impl Print, directions: usize, soils: usize, results: usize)
     requires { (directions ≤ 3) × (soils ≤ 3) × (results ≤ 3) }
 {
-    tried(directions, soils, results, 0, 0, 0, 0, 0);
+    tried(rt, directions, soils, results, 0, 0, 0, 0, 0);
 }
 
-fn stood(first_soil: u32, second_soil: u32, second_snow: u32, yesterday: u64, frost: u64) {
+fn stood(
+    rt: &impl Print,
+    first_soil: u32,
+    second_soil: u32,
+    second_snow: u32,
+    yesterday: u64,
+    frost: u64,
+) {
     tried(
+        rt,
         2,
         2,
         2,
@@ -77,18 +86,20 @@ fn stood(first_soil: u32, second_soil: u32, second_snow: u32, yesterday: u64, fr
     );
 }
 
-pub(crate) fn refusals() {
-    lent(1, 2, 2);
-    lent(3, 2, 2);
-    lent(2, 1, 2);
-    lent(2, 3, 2);
-    lent(2, 2, 1);
-    lent(2, 2, 3);
-    lent(0, 0, 0);
-    stood(50001, 0, 0, 0, 0);
-    stood(0, 50001, 0, 0, 0);
-    stood(50000, 50000, 10000001, 0, 0);
-    stood(50000, 50000, 10000000, 400001, 0);
-    stood(50000, 50000, 10000000, 400000, 2500001);
-    stood(4294967295, 4294967295, 4294967295, 4294967295, 4294967295);
+pub(crate) fn refusals(rt: &impl Print) {
+    lent(rt, 1, 2, 2);
+    lent(rt, 3, 2, 2);
+    lent(rt, 2, 1, 2);
+    lent(rt, 2, 3, 2);
+    lent(rt, 2, 2, 1);
+    lent(rt, 2, 2, 3);
+    lent(rt, 0, 0, 0);
+    stood(rt, 50001, 0, 0, 0, 0);
+    stood(rt, 0, 50001, 0, 0, 0);
+    stood(rt, 50000, 50000, 10000001, 0, 0);
+    stood(rt, 50000, 50000, 10000000, 400001, 0);
+    stood(rt, 50000, 50000, 10000000, 400000, 2500001);
+    stood(
+        rt, 4294967295, 4294967295, 4294967295, 4294967295, 4294967295,
+    );
 }

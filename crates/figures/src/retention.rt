@@ -2,7 +2,7 @@
 ghost use Rattle.std.specs.Prelude.{◌≤◌};
 
 use crate::one_cell::{CLIMATE, Ground, ONE_CELL, lived, remembered, weather};
-use crate::printing::{ended, shown};
+use crate::printing::{ended, put, shown};
 use records::wide;
 
 // The soil after so many dry days, each with a potential of a tenth of the capacity; the capacity is given in tenths of an inch.
@@ -31,30 +31,30 @@ fn dried(tenths: u32, days: u32, soil: u32) -> u32
 }
 
 // The soil left when half the capacity, all of it and twice as much has been asked for in vain.
-fn retained(tenths: u32)
+fn retained(rt: &impl Print, tenths: u32)
     requires { tenths ≤ 172 }
 {
     let half = dried(tenths, 5, 1000 * tenths);
     let once = dried(tenths, 5, half);
     let twice = dried(tenths, 10, once);
-    io::write_all(1, b"soil");
-    shown(wide(tenths));
-    shown(wide(half));
-    shown(wide(once));
-    shown(wide(twice));
-    ended();
+    put(rt, b"soil");
+    shown(rt, wide(tenths));
+    shown(rt, wide(half));
+    shown(rt, wide(once));
+    shown(rt, wide(twice));
+    ended(rt);
 }
 
-pub(crate) fn retention() {
+pub(crate) fn retention(rt: &impl Print) {
     let mut tenths = 5;
     while tenths <= 172 {
-        retained(tenths);
+        retained(rt, tenths);
         tenths += 1;
     }
 }
 
 // The full soil of a fresh state.
-pub(crate) fn capacity(water: u32, root: u32) {
+pub(crate) fn capacity(rt: &impl Print, water: u32, root: u32) {
     let covers = [
         3, 0, 75, 75, 75, 75, 0, 0, 0, 0, 0, 0, root, root, root, root,
     ];
@@ -71,9 +71,9 @@ pub(crate) fn capacity(water: u32, root: u32) {
         &mut soil,
         &mut snow,
     );
-    io::write_all(1, b"capacity");
-    shown(wide(water));
-    shown(wide(root));
-    shown(wide(soil[0]));
-    ended();
+    put(rt, b"capacity");
+    shown(rt, wide(water));
+    shown(rt, wide(root));
+    shown(rt, wide(soil[0]));
+    ended(rt);
 }

@@ -1,6 +1,6 @@
 // Snow and melt of rule 3, by the days of document 003 and by the maximum.
 use crate::one_cell::{BARE, lived, remembered, weather};
-use crate::printing::{ended, shown};
+use crate::printing::{ended, put, shown};
 use records::{TenthF, wide};
 
 // 40 inches on a day of these temperatures leave snow exactly if they fall as snow: no day melts so much.
@@ -18,7 +18,15 @@ fn snows(minimum: i32, mean: i32, maximum: i32) -> u64 {
 
 // One day of document 003's table 3 on ground that passes all its water on: 1 for snow or 0 for rain, the snow that lies after it, and what reached
 // the ground.
-fn winter(date: u64, gross: u64, minimum: i32, mean: i32, maximum: i32, snow: u32) -> u32 {
+fn winter(
+    rt: &impl Print,
+    date: u64,
+    gross: u64,
+    minimum: i32,
+    mean: i32,
+    maximum: i32,
+    snow: u32,
+) -> u32 {
     let cell = lived(
         BARE,
         0,
@@ -28,17 +36,17 @@ fn winter(date: u64, gross: u64, minimum: i32, mean: i32, maximum: i32, snow: u3
     );
     let left = cell.snow;
     let outflow = cell.outflow;
-    io::write_all(1, b"snow");
-    shown(date);
-    shown(snows(minimum, mean, maximum));
-    shown(wide(left));
-    shown(wide(outflow));
-    ended();
+    put(rt, b"snow");
+    shown(rt, date);
+    shown(rt, snows(minimum, mean, maximum));
+    shown(rt, wide(left));
+    shown(rt, wide(outflow));
+    ended(rt);
     left
 }
 
 // How far a maximum is above freezing, and what a dry day of it melts of deep snow, read off ground that passes all its water on.
-fn melted(maximum: i32) {
+fn melted(rt: &impl Print, maximum: i32) {
     let cell = lived(
         BARE,
         0,
@@ -47,31 +55,31 @@ fn melted(maximum: i32) {
         weather(0, 100, 200, maximum, 0),
     );
     let outflow = cell.outflow;
-    io::write_all(1, b"melt");
-    shown(TenthF(maximum).above_freezing());
-    shown(wide(outflow));
-    ended();
+    put(rt, b"melt");
+    shown(rt, TenthF(maximum).above_freezing());
+    shown(rt, wide(outflow));
+    ended(rt);
 }
 
-pub(crate) fn melts() {
-    melted(320);
-    melted(321);
-    melted(325);
-    melted(330);
-    melted(410);
-    melted(500);
-    melted(701);
-    melted(1000);
-    melted(1500);
+pub(crate) fn melts(rt: &impl Print) {
+    melted(rt, 320);
+    melted(rt, 321);
+    melted(rt, 325);
+    melted(rt, 330);
+    melted(rt, 410);
+    melted(rt, 500);
+    melted(rt, 701);
+    melted(rt, 1000);
+    melted(rt, 1500);
 }
 
-pub(crate) fn winter_days() {
-    let snow = winter(2, 900, 100, 215, 330, 0);
-    let snow = winter(3, 1000, 330, 370, 410, snow);
-    let snow = winter(4, 1700, 240, 315, 390, snow);
-    let snow = winter(5, 30, 190, 235, 280, snow);
-    let snow = winter(6, 30, 150, 205, 260, snow);
-    let snow = winter(7, 30, 100, 160, 220, snow);
-    let snow = winter(8, 30, 60, 140, 220, snow);
-    winter(9, 30, 160, 185, 210, snow);
+pub(crate) fn winter_days(rt: &impl Print) {
+    let snow = winter(rt, 2, 900, 100, 215, 330, 0);
+    let snow = winter(rt, 3, 1000, 330, 370, 410, snow);
+    let snow = winter(rt, 4, 1700, 240, 315, 390, snow);
+    let snow = winter(rt, 5, 30, 190, 235, 280, snow);
+    let snow = winter(rt, 6, 30, 150, 205, 260, snow);
+    let snow = winter(rt, 7, 30, 100, 160, 220, snow);
+    let snow = winter(rt, 8, 30, 60, 140, 220, snow);
+    winter(rt, 9, 30, 160, 185, 210, snow);
 }

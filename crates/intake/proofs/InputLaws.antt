@@ -1,8 +1,5 @@
 -- How much was read, for a caller that has told a whole input from a failed one.
-use mathlib.Core.List.{List}
-use mathlib.Core.Path.{◌≡◌, subst}
-use Prim.Native.Nat.{ℕ, ◌≤◌}
-use lib.ListN.{length}
+use Rattle.std.proofs.Common.{List, ◌≡◌, subst, ℕ, ◌≤◌, length}
 use Rattle.intake.specs.Input.{Within}
 use Rattle.intake.specs.declared.Input.{Input}
 use Rattle.intake.specs.declared.Input.TheVariants.{Bytes}

@@ -14,18 +14,18 @@ fn output_room() -> [u8; MOST_ANSWERS]
     [0u8; MOST_ANSWERS]
 }
 
-fn print(text: &[u8]) {
-    if !io::write_all(libc::STDOUT_FILENO, text) {
-        os::fail(b"potential: standard output");
+fn print(rt: &(impl Print + Eprint), text: &[u8]) {
+    if let Err(error) = rt.write_all(text) {
+        intake::fail(rt, b"potential: standard output", error);
     }
 }
 
-fn main() {
+fn main(rt: HostRuntime) {
     let mut input = intake::input_room();
-    let Input::Bytes(count) = intake::read_input(b"potential: standard input", &mut input) else {
+    let Input::Bytes(count) = intake::read_input(&rt, b"potential: standard input", &mut input) else {
         return;
     };
     let mut output = output_room();
     let end = station::potential_text(&input[..count], &mut output);
-    print(&output[..end]);
+    print(&rt, &output[..end]);
 }

@@ -25,41 +25,48 @@ fn grid_room() -> [u8; 262145]
     [0u8; 262145]
 }
 
-fn print(text: &[u8]) {
-    if !io::write_all(libc::STDOUT_FILENO, text) {
-        os::fail(b"setup: standard output");
+// Room for a text.
+fn text_room() -> [u8; 65536]
+    ensures { 65536 ≡ length result }
+{
+    [0u8; 65536]
+}
+
+fn print(rt: &(impl Print + Eprint), text: &[u8]) {
+    if let Err(error) = rt.write_all(text) {
+        intake::fail(rt, b"setup: standard output", error);
     }
 }
 
-fn main() {
-    if !all_named() {
+fn main(rt: HostRuntime) {
+    if !all_named(&rt) {
         return;
     }
     let mut direction = grid_room();
-    let Input::Bytes(directions) = read(0, LONGEST_GRID, &mut direction) else {
+    let Input::Bytes(directions) = read(&rt, 0, LONGEST_GRID, &mut direction) else {
         return;
     };
     let mut cover = grid_room();
-    let Input::Bytes(codes) = read(1, LONGEST_GRID, &mut cover) else {
+    let Input::Bytes(codes) = read(&rt, 1, LONGEST_GRID, &mut cover) else {
         return;
     };
     let mut group = grid_room();
-    let Input::Bytes(groups) = read(2, LONGEST_GRID, &mut group) else {
+    let Input::Bytes(groups) = read(&rt, 2, LONGEST_GRID, &mut group) else {
         return;
     };
     let mut water = grid_room();
-    let Input::Bytes(waters) = read(3, LONGEST_GRID, &mut water) else {
+    let Input::Bytes(waters) = read(&rt, 3, LONGEST_GRID, &mut water) else {
         return;
     };
     let mut covers = intake::input_room();
-    let Input::Bytes(table) = read(4, LONGEST_OTHER, &mut covers) else {
+    let Input::Bytes(table) = read(&rt, 4, LONGEST_OTHER, &mut covers) else {
         return;
     };
     let mut weather = intake::input_room();
-    let Input::Bytes(days) = read(5, LONGEST_OTHER, &mut weather) else {
+    let Input::Bytes(days) = read(&rt, 5, LONGEST_OTHER, &mut weather) else {
         return;
     };
-    let mut output = io::large_buffer();
+    let mut output = text_room();
     match desk::setup_text(
         &direction[..directions],
         &cover[..codes],
@@ -69,7 +76,7 @@ fn main() {
         &weather[..days],
         &mut output,
     ) {
-        Setup::Text(count) => print(&output[..count]),
-        Setup::Wrong(fault) => say_fault(fault),
+        Setup::Text(count) => print(&rt, &output[..count]),
+        Setup::Wrong(fault) => say_fault(&rt, fault),
     }
 }

@@ -1,9 +1,10 @@
 // A file of the folder, read whole or not at all.
-ghost use Rattle.io.specs.Counts.{IsPrefixLen};
+ghost use Rattle.std.specs.Prelude.{◌≤◌, length};
 
 use crate::labels::{LABEL_ROOM, path_in, put_label};
 use crate::saying::say_longer;
 use intake::Input;
+use std::rt::Files;
 
 // How many bytes stand at the front of the lent buffer. Where the file is not whole, what is wrong with it was said.
 #[derive(Clone, Copy)]
@@ -12,10 +13,10 @@ pub(crate) struct Found {
     pub(crate) count: usize,
 }
 
-fn read_labelled(label: &[u8], buffer: &mut [u8]) -> Found
-    ensures { IsPrefixLen result.count buffer.new }
+fn read_labelled(rt: &(impl Files + Eprint), label: &[u8], buffer: &mut [u8]) -> Found
+    ensures { result.count ≤ length buffer.new }
 {
-    match intake::read_file(label, path_in(label), buffer) {
+    match intake::read_file(rt, label, path_in(label), buffer) {
         Input::Bytes(count) => Found { whole: true, count },
         Input::Failed => Found {
             whole: false,
@@ -24,15 +25,21 @@ fn read_labelled(label: &[u8], buffer: &mut [u8]) -> Found
     }
 }
 
-pub(crate) fn read(folder: &[u8], name: &[u8], longest: usize, buffer: &mut [u8]) -> Found
-    ensures { IsPrefixLen result.count buffer.new }
+pub(crate) fn read(
+    rt: &(impl Files + Eprint),
+    folder: &[u8],
+    name: &[u8],
+    longest: usize,
+    buffer: &mut [u8],
+) -> Found
+    ensures { result.count ≤ length buffer.new }
 {
     let mut label = [0u8; LABEL_ROOM];
     let end = put_label(&mut label, folder, name);
-    let found = read_labelled(&label[..end], buffer);
+    let found = read_labelled(rt, &label[..end], buffer);
     let count = found.count;
     if longest < count {
-        say_longer(folder, name, longest);
+        say_longer(rt, folder, name, longest);
         return Found {
             whole: false,
             count,

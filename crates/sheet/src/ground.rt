@@ -1,6 +1,5 @@
 // The setup: four grids and the cover file, as the text that `balance` begins with.
-ghost use Rattle.io.specs.Counts.{IsPrefixLen};
-ghost use Rattle.std.specs.Prelude.{◌≡◌};
+ghost use Rattle.std.specs.Prelude.{◌≡◌, ◌≤◌, length};
 
 use crate::files::{Found, read};
 use crate::places::least;
@@ -8,6 +7,7 @@ use crate::saying::{say, say_number, say_of, say_path, say_refused};
 use desk::{Fault, Setup};
 use grids::{Header, read_grid};
 use records::MOST_CELLS;
+use std::rt::Files;
 
 // How many bytes of the lent text are the setup's, and the grids' header. 0 bytes: something is wrong, and was said.
 #[derive(Clone, Copy)]
@@ -76,50 +76,52 @@ fn written_header(direction: &[u8]) -> Header {
     header
 }
 
-fn say_of_grid(folder: &[u8], file: u32, words: &[u8]) {
+fn say_of_grid(rt: &impl Eprint, folder: &[u8], file: u32, words: &[u8]) {
     match file {
-        0 => say_of(folder, b"direction.asc", words),
-        1 => say_of(folder, b"cover.asc", words),
-        2 => say_of(folder, b"group.asc", words),
-        _ => say_of(folder, b"water.asc", words),
+        0 => say_of(rt, folder, b"direction.asc", words),
+        1 => say_of(rt, folder, b"cover.asc", words),
+        2 => say_of(rt, folder, b"group.asc", words),
+        _ => say_of(rt, folder, b"water.asc", words),
     }
 }
 
 // A grid that is not over the same cells as the first.
-fn say_other(folder: &[u8], file: u32, words: &[u8]) {
-    say_of_grid(folder, file, words);
-    say_path(folder, b"direction.asc");
-    say(b"\n");
+fn say_other(rt: &impl Eprint, folder: &[u8], file: u32, words: &[u8]) {
+    say_of_grid(rt, folder, file, words);
+    say_path(rt, folder, b"direction.asc");
+    say(rt, b"\n");
 }
 
-fn say_grid(folder: &[u8], file: u32, place: usize) {
-    say_of_grid(folder, file, b": ");
-    say_refused(12, place, b"\n");
+fn say_grid(rt: &impl Eprint, folder: &[u8], file: u32, place: usize) {
+    say_of_grid(rt, folder, file, b": ");
+    say_refused(rt, 12, place, b"\n");
 }
 
-fn say_too_long(folder: &[u8], count: usize) {
-    say_of(folder, b"covers.txt", b": the setup would have ");
-    say_number(count);
-    say(b" bytes, and 65536 are the most\n");
+fn say_too_long(rt: &impl Eprint, folder: &[u8], count: usize) {
+    say_of(rt, folder, b"covers.txt", b": the setup would have ");
+    say_number(rt, count);
+    say(rt, b" bytes, and 65536 are the most\n");
 }
 
-fn say_fault(folder: &[u8], fault: Fault) {
+fn say_fault(rt: &impl Eprint, folder: &[u8], fault: Fault) {
     match fault {
-        Fault::Refused(file, place) => say_grid(folder, file, place),
-        Fault::Size(file) => say_other(folder, file, b": another size than "),
-        Fault::Corner(file) => say_other(folder, file, b": another corner than "),
-        Fault::CellSize(file) => say_other(folder, file, b": another cell size than "),
+        Fault::Refused(file, place) => say_grid(rt, folder, file, place),
+        Fault::Size(file) => say_other(rt, folder, file, b": another size than "),
+        Fault::Corner(file) => say_other(rt, folder, file, b": another corner than "),
+        Fault::CellSize(file) => say_other(rt, folder, file, b": another cell size than "),
         Fault::Covers => say_of(
+            rt,
             folder,
             b"covers.txt",
             b": not a season, a count of covers and 16 numbers for each\n",
         ),
-        Fault::TooLong(count) => say_too_long(folder, count),
+        Fault::TooLong(count) => say_too_long(rt, folder, count),
     }
 }
 
 // The files' text, where nothing is wrong with them, and what is written above each of the sheet's grids.
 fn laid(
+    rt: &impl Eprint,
     folder: &[u8],
     direction: &[u8],
     cover: &[u8],
@@ -128,7 +130,7 @@ fn laid(
     covers: &[u8],
     text: &mut [u8],
 ) -> Ground
-    ensures { IsPrefixLen result.count text.new }
+    ensures { result.count ≤ length text.new }
 {
     match desk::setup_text(direction, cover, group, water, covers, b"", text) {
         Setup::Text(count) => Ground {
@@ -136,7 +138,7 @@ fn laid(
             header: written_header(direction),
         },
         Setup::Wrong(fault) => {
-            say_fault(folder, fault);
+            say_fault(rt, folder, fault);
             no_ground()
         }
     }
@@ -144,6 +146,7 @@ fn laid(
 
 // Reads a file to its part of the room.
 fn read_to(
+    rt: &(impl Files + Eprint),
     folder: &[u8],
     name: &[u8],
     longest: usize,
@@ -153,15 +156,24 @@ fn read_to(
 ) -> Found {
     let end = least(to, room.len());
     let start = least(from, end);
-    read(folder, name, longest, &mut room[start..end])
+    read(rt, folder, name, longest, &mut room[start..end])
 }
 
-fn read_grids(folder: &[u8], room: &mut [u8]) -> Lengths {
-    let direction = read_to(folder, b"direction.asc", LONGEST_GRID, room, 0, COVER_FROM);
+fn read_grids(rt: &(impl Files + Eprint), folder: &[u8], room: &mut [u8]) -> Lengths {
+    let direction = read_to(
+        rt,
+        folder,
+        b"direction.asc",
+        LONGEST_GRID,
+        room,
+        0,
+        COVER_FROM,
+    );
     if !direction.whole {
         return no_lengths();
     }
     let cover = read_to(
+        rt,
         folder,
         b"cover.asc",
         LONGEST_GRID,
@@ -173,6 +185,7 @@ fn read_grids(folder: &[u8], room: &mut [u8]) -> Lengths {
         return no_lengths();
     }
     let group = read_to(
+        rt,
         folder,
         b"group.asc",
         LONGEST_GRID,
@@ -184,6 +197,7 @@ fn read_grids(folder: &[u8], room: &mut [u8]) -> Lengths {
         return no_lengths();
     }
     let water = read_to(
+        rt,
         folder,
         b"water.asc",
         LONGEST_GRID,
@@ -201,12 +215,13 @@ fn read_grids(folder: &[u8], room: &mut [u8]) -> Lengths {
     }
 }
 
-fn read_all(folder: &[u8], room: &mut [u8]) -> Lengths {
-    let grids = read_grids(folder, room);
+fn read_all(rt: &(impl Files + Eprint), folder: &[u8], room: &mut [u8]) -> Lengths {
+    let grids = read_grids(rt, folder, room);
     if !grids.whole {
         return grids;
     }
     let covers = read_to(
+        rt,
         folder,
         b"covers.txt",
         LONGEST_COVERS,
@@ -237,10 +252,17 @@ fn file_in(room: &[u8], from: usize, count: usize) -> &[u8] {
     &room[from..end]
 }
 
-fn laid_in(folder: &[u8], room: &[u8], lengths: Lengths, text: &mut [u8]) -> Ground
-    ensures { IsPrefixLen result.count text.new }
+fn laid_in(
+    rt: &impl Eprint,
+    folder: &[u8],
+    room: &[u8],
+    lengths: Lengths,
+    text: &mut [u8],
+) -> Ground
+    ensures { result.count ≤ length text.new }
 {
     laid(
+        rt,
         folder,
         file_in(room, 0, lengths.direction),
         file_in(room, COVER_FROM, lengths.cover),
@@ -252,12 +274,17 @@ fn laid_in(folder: &[u8], room: &[u8], lengths: Lengths, text: &mut [u8]) -> Gro
 }
 
 // Reads the five files to a lent room, and makes the setup's text of them in another.
-pub(crate) fn read_ground(folder: &[u8], room: &mut [u8], text: &mut [u8]) -> Ground
-    ensures { IsPrefixLen result.count text.new }
+pub(crate) fn read_ground(
+    rt: &(impl Files + Eprint),
+    folder: &[u8],
+    room: &mut [u8],
+    text: &mut [u8],
+) -> Ground
+    ensures { result.count ≤ length text.new }
 {
-    let lengths = read_all(folder, room);
+    let lengths = read_all(rt, folder, room);
     if !lengths.whole {
         return no_ground();
     }
-    laid_in(folder, room, lengths, text)
+    laid_in(rt, folder, room, lengths, text)
 }

@@ -1,5 +1,5 @@
 // Names of files. What is said of a file begins with a label, `sheet: FOLDER/NAME`, and the path stands at its end.
-ghost use Rattle.io.specs.Counts.{IsPrefixLen};
+ghost use Rattle.std.specs.Prelude.{◌≤◌, length};
 
 use words::put_bytes;
 
@@ -10,7 +10,7 @@ const FRONT: usize = 7;
 
 // Bytes put as far as they fit: where they end.
 pub(crate) fn lay(buffer: &mut [u8], at: usize, bytes: &[u8]) -> usize
-    ensures { IsPrefixLen result buffer.new }
+    ensures { result ≤ length buffer.new }
 {
     let end = put_bytes(buffer, at, bytes);
     if end <= buffer.len() {
@@ -29,7 +29,7 @@ fn ends_in_slash(folder: &[u8]) -> bool {
 
 // A folder may be named with a slash behind it.
 pub(crate) fn put_label(label: &mut [u8], folder: &[u8], name: &[u8]) -> usize
-    ensures { IsPrefixLen result label.new }
+    ensures { result ≤ length label.new }
 {
     let front = lay(label, 0, b"sheet: ");
     let end = lay(label, front, folder);

@@ -19,16 +19,19 @@ use saying::say;
 // The program's own name counts as an argument.
 const ARGUMENTS: usize = 2;
 
-fn main() {
-    if os::arg_count() != ARGUMENTS {
-        say(b"usage: sheet FOLDER\n");
+fn main(rt: HostRuntime) {
+    if intake::argument_count(&rt) != ARGUMENTS {
+        say(&rt, b"usage: sheet FOLDER\n");
         return;
     }
-    let mut folder = io::buffer();
-    let count = os::arg(1, &mut folder);
+    let mut folder = intake::name_room();
+    let count = intake::argument(&rt, 1, &mut folder);
     if count == 0 {
-        say(b"sheet: the folder's name is empty, or has more than 4096 bytes\n");
+        say(
+            &rt,
+            b"sheet: the folder's name is empty, or has more than 4096 bytes\n",
+        );
         return;
     }
-    sheet_of(&folder[..count]);
+    sheet_of(&rt, &folder[..count]);
 }

@@ -22,23 +22,31 @@ fn from_one(n: usize) -> usize {
 }
 
 // `row R, column C`, both from 1.
-fn say_cell(grid: Grid, cell: usize) {
+fn say_cell(rt: &impl Eprint, grid: Grid, cell: usize) {
     let width = index_of(grid.width);
     if width == 0 {
         return;
     }
-    say(b"row ");
-    say_number(from_one(cell / width));
-    say(b", column ");
-    say_number(from_one(cell % width));
+    say(rt, b"row ");
+    say_number(rt, from_one(cell / width));
+    say(rt, b", column ");
+    say_number(rt, from_one(cell % width));
 }
 
 // A refused cell of the setup.
-fn say_at_cell(folder: &[u8], name: &[u8], grid: Grid, number: usize, cell: usize, words: &[u8]) {
-    say_of(folder, name, b": ");
-    say_cell(grid, cell);
-    say(b": ");
-    say_refused(number, cell, words);
+fn say_at_cell(
+    rt: &impl Eprint,
+    folder: &[u8],
+    name: &[u8],
+    grid: Grid,
+    number: usize,
+    cell: usize,
+    words: &[u8],
+) {
+    say_of(rt, folder, name, b": ");
+    say_cell(rt, grid, cell);
+    say(rt, b": ");
+    say_refused(rt, number, cell, words);
 }
 
 fn has_code(covers: &[u32], code: u32) -> bool {
@@ -57,6 +65,7 @@ fn has_code(covers: &[u32], code: u32) -> bool {
 
 // Refusal 4: which of the cell's four numbers is at fault. A direction below zero has taken the group's place, so it comes first.
 fn say_cell_numbers(
+    rt: &impl Eprint,
     folder: &[u8],
     grid: Grid,
     covers: &[u32],
@@ -69,6 +78,7 @@ fn say_cell_numbers(
     let soil = number_at(group, cell);
     if NEGATIVES < number_at(direction, cell) {
         say_at_cell(
+            rt,
             folder,
             b"direction.asc",
             grid,
@@ -78,6 +88,7 @@ fn say_cell_numbers(
         );
     } else if !has_code(covers, code) {
         say_at_cell(
+            rt,
             folder,
             b"cover.asc",
             grid,
@@ -87,6 +98,7 @@ fn say_cell_numbers(
         );
     } else if (soil < 1) | (MOST_GROUP < soil) {
         say_at_cell(
+            rt,
             folder,
             b"group.asc",
             grid,
@@ -96,6 +108,7 @@ fn say_cell_numbers(
         );
     } else {
         say_at_cell(
+            rt,
             folder,
             b"water.asc",
             grid,
@@ -106,11 +119,12 @@ fn say_cell_numbers(
     }
 }
 
-fn say_entry(folder: &[u8], entry: usize) {
-    say_of(folder, b"covers.txt", b": entry ");
-    say_number(entry);
-    say(b": ");
+fn say_entry(rt: &impl Eprint, folder: &[u8], entry: usize) {
+    say_of(rt, folder, b"covers.txt", b": entry ");
+    say_number(rt, entry);
+    say(rt, b": ");
     say_refused(
+        rt,
         3,
         entry,
         b": the order of the codes, or a figure of this cover outside its limits\n",
@@ -118,10 +132,10 @@ fn say_entry(folder: &[u8], entry: usize) {
 }
 
 // Which line of the weather a word stands on.
-fn say_line(folder: &[u8], text: &[u8], word: usize) {
-    say_of(folder, b"weather.txt", b": line ");
-    say_number(line_of(text, word));
-    say(b": ");
+fn say_line(rt: &impl Eprint, folder: &[u8], text: &[u8], word: usize) {
+    say_of(rt, folder, b"weather.txt", b": line ");
+    say_number(rt, line_of(text, word));
+    say(rt, b": ");
 }
 
 // The place of a day's first number among the words.
@@ -132,14 +146,15 @@ fn first_word(day: usize) -> usize {
     DAY_NUMBERS * day
 }
 
-fn say_snow(grid: Grid, cell: usize) {
-    say_refused(10, cell, b": the snow of ");
-    say_cell(grid, cell);
-    say(b" passes 1,000 inches of water\n");
+fn say_snow(rt: &impl Eprint, grid: Grid, cell: usize) {
+    say_refused(rt, 10, cell, b": the snow of ");
+    say_cell(rt, grid, cell);
+    say(rt, b" passes 1,000 inches of water\n");
 }
 
 // What the library can say no to in a folder whose grids fit: the setup, or this day of the weather.
 pub(crate) fn say_refusal(
+    rt: &impl Eprint,
     folder: &[u8],
     grid: Grid,
     covers: &[u32],
@@ -151,13 +166,14 @@ pub(crate) fn say_refusal(
     why: Refusal,
 ) {
     match why {
-        Refusal::Grid => say_of(folder, b"direction.asc", b": refused 1 at 0\n"),
-        Refusal::Lent => say_of(folder, b"direction.asc", b": refused 2 at 0\n"),
-        Refusal::CoverTable(entry) => say_entry(folder, entry),
+        Refusal::Grid => say_of(rt, folder, b"direction.asc", b": refused 1 at 0\n"),
+        Refusal::Lent => say_of(rt, folder, b"direction.asc", b": refused 2 at 0\n"),
+        Refusal::CoverTable(entry) => say_entry(rt, folder, entry),
         Refusal::CellNumbers(cell) => say_cell_numbers(
-            folder, grid, covers, direction, cover, group, cell,
+            rt, folder, grid, covers, direction, cover, group, cell,
         ),
         Refusal::Ring(cell) => say_at_cell(
+            rt,
             folder,
             b"direction.asc",
             grid,
@@ -166,29 +182,31 @@ pub(crate) fn say_refusal(
             b": the directions lead round in a ring\n",
         ),
         Refusal::Climate => say_of(
+            rt,
             folder,
             b"covers.txt",
             b": refused 6 at 0: the growing season is outside its limits\n",
         ),
         Refusal::DayRecord => {
-            say_line(folder, weather, first_word(day));
-            say_refused(7, 0, b": a figure of this day is outside its limits\n");
+            say_line(rt, folder, weather, first_word(day));
+            say_refused(rt, 7, 0, b": a figure of this day is outside its limits\n");
         }
         Refusal::SerialGap => {
-            say_line(folder, weather, first_word(day));
+            say_line(rt, folder, weather, first_word(day));
             say_refused(
+                rt,
                 8,
                 0,
                 b": the serial does not follow that of the day before\n",
             );
         }
         Refusal::StateAt(cell) => {
-            say_line(folder, weather, first_word(day));
-            say_refused(9, cell, b"\n");
+            say_line(rt, folder, weather, first_word(day));
+            say_refused(rt, 9, cell, b"\n");
         }
         Refusal::Snowfall(cell) => {
-            say_line(folder, weather, first_word(day));
-            say_snow(grid, cell);
+            say_line(rt, folder, weather, first_word(day));
+            say_snow(rt, grid, cell);
         }
     }
 }
@@ -201,24 +219,25 @@ fn less(count: usize, by: usize) -> usize {
 }
 
 // A word of the cover file that is no number, by its place in the setup's text.
-pub(crate) fn say_cover_word(folder: &[u8], text: &[u8], place: usize) {
-    say_of(folder, b"covers.txt", b": line ");
-    say_number(less(line_of(text, place), 1));
-    say(b": ");
+pub(crate) fn say_cover_word(rt: &impl Eprint, folder: &[u8], text: &[u8], place: usize) {
+    say_of(rt, folder, b"covers.txt", b": line ");
+    say_number(rt, less(line_of(text, place), 1));
+    say(rt, b": ");
     say_refused(
+        rt,
         11,
         less(place, SIZE_WORDS),
         b": not a whole number of 1 to 9 digits\n",
     );
 }
 
-pub(crate) fn say_weather_word(folder: &[u8], text: &[u8], place: usize) {
-    say_line(folder, text, place);
-    say_refused(11, place, b": not a whole number of 1 to 9 digits\n");
+pub(crate) fn say_weather_word(rt: &impl Eprint, folder: &[u8], text: &[u8], place: usize) {
+    say_line(rt, folder, text, place);
+    say_refused(rt, 11, place, b": not a whole number of 1 to 9 digits\n");
 }
 
 // The line is that of the day whose numbers are missing.
-pub(crate) fn say_cut_off(folder: &[u8], text: &[u8], count: usize) {
-    say_line(folder, text, count - count % DAY_NUMBERS);
-    say_refused(11, count, b": the last day has fewer than 7 numbers\n");
+pub(crate) fn say_cut_off(rt: &impl Eprint, folder: &[u8], text: &[u8], count: usize) {
+    say_line(rt, folder, text, count - count % DAY_NUMBERS);
+    say_refused(rt, 11, count, b": the last day has fewer than 7 numbers\n");
 }

@@ -11,6 +11,7 @@ use crate::writing::write_files;
 use grids::Header;
 use lines::MOST_NUMBERS;
 use records::{Climate, Grid, MOST_CELLS};
+use std::rt::Files;
 use text::{
     FRONT_NUMBERS, Layout, Taken, climate_in, covers_in, directions_in, grid_in, groups_in,
     take_up, waters_in,
@@ -42,6 +43,13 @@ fn text_room() -> [u8; 3276800]
     ensures { 3276800 ≡ length result }
 {
     [0u8; 3276800]
+}
+
+// Room for the setup's text.
+fn setup_room() -> [u8; 65536]
+    ensures { 65536 ≡ length result }
+{
+    [0u8; 65536]
 }
 
 fn widen(x: u32) -> u64
@@ -108,6 +116,7 @@ fn stored_at_start(
 
 // The ten texts, and only then the files.
 fn write_sheet(
+    rt: &(impl Files + Print + Eprint),
     folder: &[u8],
     header: Header,
     grid: Grid,
@@ -129,10 +138,11 @@ fn write_sheet(
         room, header, grid, climate, covers, direction, cover, group, stored, count, days, totals,
         sums, soil, snow,
     );
-    write_files(folder, room, ends);
+    write_files(rt, folder, room, ends);
 }
 
 fn worked(
+    rt: &(impl Files + Print + Eprint),
     folder: &[u8],
     header: Header,
     grid: Grid,
@@ -150,6 +160,7 @@ fn worked(
     let mut totals = total_room();
     let mut sums = sum_room();
     let Worked::Days(count) = run_weather(
+        rt,
         folder,
         grid,
         climate,
@@ -169,13 +180,20 @@ fn worked(
     };
     let stored = stored_at_start(grid, climate, covers, direction, cover, group, water);
     write_sheet(
-        folder, header, grid, climate, covers, direction, cover, group, stored, count, &days,
+        rt, folder, header, grid, climate, covers, direction, cover, group, stored, count, &days,
         &totals, &sums, soil, snow, room,
     );
 }
 
 // Numbers that are ready for the run.
-fn started(folder: &[u8], header: Header, numbers: &[u32], layout: Layout, room: &mut [u8])
+fn started(
+    rt: &(impl Files + Print + Eprint),
+    folder: &[u8],
+    header: Header,
+    numbers: &[u32],
+    layout: Layout,
+    room: &mut [u8],
+)
     requires { Complete numbers.now layout }
 {
     let front = FRONT_NUMBERS;
@@ -188,6 +206,7 @@ fn started(folder: &[u8], header: Header, numbers: &[u32], layout: Layout, room:
     let mut soil = [0u32; MOST_CELLS];
     let mut snow = [0u32; MOST_CELLS];
     worked(
+        rt,
         folder,
         header,
         grid_in(numbers),
@@ -204,26 +223,32 @@ fn started(folder: &[u8], header: Header, numbers: &[u32], layout: Layout, room:
 }
 
 // The setup's text, with no days behind it.
-fn taken_up(folder: &[u8], header: Header, text: &[u8], room: &mut [u8]) {
+fn taken_up(
+    rt: &(impl Files + Print + Eprint),
+    folder: &[u8],
+    header: Header,
+    text: &[u8],
+    room: &mut [u8],
+) {
     let mut numbers = [0u32; MOST_NUMBERS];
     match take_up(text, &mut numbers) {
-        Taken::Refused(_, place) => say_cover_word(folder, text, place as usize),
+        Taken::Refused(_, place) => say_cover_word(rt, folder, text, place as usize),
         Taken::Ready(layout) => {
             let count = layout.numbers;
-            started(folder, header, &numbers[..count], layout, room);
+            started(rt, folder, header, &numbers[..count], layout, room);
         }
     }
 }
 
 // One large room serves for all that is read, and then for all that is written: what was read from it stands in numbers by then.
-pub(crate) fn sheet_of(folder: &[u8]) {
+pub(crate) fn sheet_of(rt: &(impl Files + Print + Eprint), folder: &[u8]) {
     let mut room = text_room();
-    let mut text = io::large_buffer();
-    let ground = read_ground(folder, &mut room, &mut text);
+    let mut text = setup_room();
+    let ground = read_ground(rt, folder, &mut room, &mut text);
     let count = ground.count;
     if count == 0 {
         return;
     }
     let header = ground.header;
-    taken_up(folder, header, &text[..count], &mut room);
+    taken_up(rt, folder, header, &text[..count], &mut room);
 }

@@ -8,6 +8,7 @@ use crate::saying::say_of;
 use recharge::period;
 use records::{Climate, Grid, Verdict};
 use season::{Weather, read_days};
+use std::rt::Files;
 
 #[derive(Clone, Copy)]
 pub(crate) enum Worked {
@@ -49,6 +50,7 @@ fn sums_of(cells: usize, room: usize) -> usize
 
 // The run over all days, from the fresh state on.
 fn run_over(
+    rt: &impl Eprint,
     folder: &[u8],
     weather: &[u8],
     grid: Grid,
@@ -73,7 +75,7 @@ fn run_over(
         Verdict::Accepted => Worked::Days(count),
         Verdict::Refused(why) => {
             say_refusal(
-                folder, grid, covers, direction, cover, group, weather, run.days, why,
+                rt, folder, grid, covers, direction, cover, group, weather, run.days, why,
             );
             Worked::Wrong
         }
@@ -81,19 +83,19 @@ fn run_over(
 }
 
 // Whether the weather's numbers are whole days. What is wrong with them is said.
-fn days_in(folder: &[u8], weather: &[u8], days: &mut [i32]) -> Worked {
+fn days_in(rt: &impl Eprint, folder: &[u8], weather: &[u8], days: &mut [i32]) -> Worked {
     match read_days(weather, days) {
         Weather::Days(count) => Worked::Days(count),
         Weather::Bad(place) => {
-            say_weather_word(folder, weather, place);
+            say_weather_word(rt, folder, weather, place);
             Worked::Wrong
         }
         Weather::CutOff(count) => {
-            say_cut_off(folder, weather, count);
+            say_cut_off(rt, folder, weather, count);
             Worked::Wrong
         }
         Weather::TooMany(_) => {
-            say_of(folder, b"weather.txt", b": more than 20000 days\n");
+            say_of(rt, folder, b"weather.txt", b": more than 20000 days\n");
             Worked::Wrong
         }
     }
@@ -101,6 +103,7 @@ fn days_in(folder: &[u8], weather: &[u8], days: &mut [i32]) -> Worked {
 
 // The run over the text of the weather.
 fn run_text(
+    rt: &impl Eprint,
     folder: &[u8],
     weather: &[u8],
     grid: Grid,
@@ -116,7 +119,7 @@ fn run_text(
     sums: &mut [u64],
     totals: &mut [u64],
 ) -> Worked {
-    let Worked::Days(count) = days_in(folder, weather, days) else {
+    let Worked::Days(count) = days_in(rt, folder, weather, days) else {
         return Worked::Wrong;
     };
     let none = 0;
@@ -124,6 +127,7 @@ fn run_text(
     let held = numbers_of(count, totals.len());
     let summed = sums_of(direction.len(), sums.len());
     run_over(
+        rt,
         folder,
         weather,
         grid,
@@ -144,6 +148,7 @@ fn run_text(
 
 // Reads the weather to a lent room, and runs over it.
 pub(crate) fn run_weather(
+    rt: &(impl Files + Eprint),
     folder: &[u8],
     grid: Grid,
     climate: Climate,
@@ -162,6 +167,7 @@ pub(crate) fn run_weather(
     let none = 0;
     let end = least(WEATHER_ROOM, room.len());
     let found = read(
+        rt,
         folder,
         b"weather.txt",
         LONGEST_WEATHER,
@@ -172,6 +178,7 @@ pub(crate) fn run_weather(
     }
     let bytes = least(found.count, room.len());
     run_text(
+        rt,
         folder,
         &room[none..bytes],
         grid,

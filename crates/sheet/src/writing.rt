@@ -1,9 +1,14 @@
 // The sheet's files, each written beside its place first and then, when all ten stand, renamed into it.
-ghost use Rattle.io.specs.Counts.{IsPrefixLen};
+ghost use Rattle.std.specs.Prelude.{◌≤◌, length};
 
 use crate::labels::{LABEL_ROOM, lay, path_in, put_label};
 use crate::saying::say_of;
 use crate::texts::ENDS;
+use intake::{fail, path_of};
+use std::fs;
+use std::fs::OpenFile;
+use std::io::{Error, ErrorKind, Write};
+use std::rt::Files;
 
 // The folder in the folder.
 #[derive(Clone, Copy)]
@@ -25,7 +30,7 @@ const NAME_ROOM: usize = 64;
 
 // The name of a file, from the folder on.
 fn put_name(name: &mut [u8], file: usize) -> usize
-    ensures { IsPrefixLen result name.new }
+    ensures { result ≤ length name.new }
 {
     match file {
         0 => lay(name, 0, b"sheet/recharge.asc"),
@@ -43,7 +48,7 @@ fn put_name(name: &mut [u8], file: usize) -> usize
 
 // The label of a file in its place.
 fn label_of(label: &mut [u8], folder: &[u8], file: usize) -> usize
-    ensures { IsPrefixLen result label.new }
+    ensures { result ≤ length label.new }
 {
     let mut name = [0u8; NAME_ROOM];
     let count = put_name(&mut name, file);
@@ -52,82 +57,114 @@ fn label_of(label: &mut [u8], folder: &[u8], file: usize) -> usize
 
 // The label of a file beside its place.
 fn label_beside(label: &mut [u8], folder: &[u8], file: usize) -> usize
-    ensures { IsPrefixLen result label.new }
+    ensures { result ≤ length label.new }
 {
     let count = label_of(label, folder, file);
     lay(label, count, b".new")
 }
 
 // A failed call is said, as the label and the system's words.
-fn done(status: i32, label: &[u8]) -> bool {
-    if status < 0 {
-        os::fail(label);
-        return false;
+fn done(rt: &impl Eprint, status: Result<(), Error>, label: &[u8]) -> bool {
+    match status {
+        Ok(()) => true,
+        Err(error) => {
+            fail(rt, label, error);
+            false
+        }
     }
-    true
 }
 
-fn make_folder(folder: &[u8]) -> Folder {
+// The calls of the system, each on the path that a label ends with.
+fn mkdir(rt: &impl Files, label: &[u8]) -> Result<(), Error> {
+    fs::create_dir(rt, path_of(path_in(label))?)
+}
+
+fn rmdir(rt: &impl Files, label: &[u8]) -> Result<(), Error> {
+    fs::remove_dir(rt, path_of(path_in(label))?)
+}
+
+fn unlink(rt: &impl Files, label: &[u8]) -> Result<(), Error> {
+    fs::remove_file(rt, path_of(path_in(label))?)
+}
+
+fn rename(rt: &impl Files, from: &[u8], to: &[u8]) -> Result<(), Error> {
+    fs::rename(rt, path_of(path_in(from))?, path_of(path_in(to))?)
+}
+
+// What a disk has not taken is told here, since a file that is let go tells nothing. What is on no disk, such as a device, has nothing to tell.
+fn synced(file: &impl OpenFile) -> Result<(), Error> {
+    match file.sync_all() {
+        Ok(()) => Ok(()),
+        Err(error) => {
+            if error.kind() == ErrorKind::InvalidInput {
+                return Ok(());
+            }
+            Err(error)
+        }
+    }
+}
+
+fn overwrite(rt: &impl Files, label: &[u8], text: &[u8]) -> Result<(), Error> {
+    let mut file = fs::create(rt, path_of(path_in(label))?)?;
+    file.write_all(text)?;
+    synced(&file)
+}
+
+fn make_folder(rt: &(impl Files + Eprint), folder: &[u8]) -> Folder {
     let mut label = [0u8; LABEL_ROOM];
     let end = put_label(&mut label, folder, b"sheet");
-    if 0 <= os::mkdir(path_in(&label[..end])) {
-        return Folder::Made;
+    match mkdir(rt, &label[..end]) {
+        Ok(()) => Folder::Made,
+        Err(error) => {
+            if error.kind() == ErrorKind::AlreadyExists {
+                return Folder::Stood;
+            }
+            fail(rt, &label[..end], error);
+            Folder::Failed
+        }
     }
-    if os::errno() == libc::EEXIST {
-        return Folder::Stood;
-    }
-    os::fail(&label[..end]);
-    Folder::Failed
 }
 
 // Whether all of it stands in the file; what failed is said.
-fn write_whole(label: &[u8], text: &[u8]) -> bool {
-    let file = os::open_overwrite(path_in(label));
-    if !done(file, label) {
-        return false;
-    }
-    if !io::write_all(file, text) {
-        os::fail(label);
-        libc::close(file);
-        return false;
-    }
-    done(libc::close(file), label)
+fn write_whole(rt: &(impl Files + Eprint), label: &[u8], text: &[u8]) -> bool {
+    done(rt, overwrite(rt, label, text), label)
 }
 
-fn write_beside(folder: &[u8], file: usize, text: &[u8]) -> bool {
+fn write_beside(rt: &(impl Files + Eprint), folder: &[u8], file: usize, text: &[u8]) -> bool {
     let mut label = [0u8; LABEL_ROOM];
     let end = label_beside(&mut label, folder, file);
-    write_whole(&label[..end], text)
+    write_whole(rt, &label[..end], text)
 }
 
-fn put_in_place(folder: &[u8], file: usize) -> bool {
+fn put_in_place(rt: &(impl Files + Eprint), folder: &[u8], file: usize) -> bool {
     let mut label = [0u8; LABEL_ROOM];
     let end = label_of(&mut label, folder, file);
     let mut beside = [0u8; LABEL_ROOM];
     let end_beside = label_beside(&mut beside, folder, file);
     done(
-        os::rename(path_in(&beside[..end_beside]), path_in(&label[..end])),
+        rt,
+        rename(rt, &beside[..end_beside], &label[..end]),
         &label[..end],
     )
 }
 
-fn remove_beside(folder: &[u8], file: usize) {
+fn remove_beside(rt: &impl Files, folder: &[u8], file: usize) {
     let mut label = [0u8; LABEL_ROOM];
     let end = label_beside(&mut label, folder, file);
-    os::unlink(path_in(&label[..end]));
+    let _ = unlink(rt, &label[..end]);
 }
 
 // What stands beside its place is removed again, and the folder too, where this run has made it.
-fn undo(folder: &[u8], made: bool) {
+fn undo(rt: &impl Files, folder: &[u8], made: bool) {
     let mut file = 0;
     while file < FILES {
-        remove_beside(folder, file);
+        remove_beside(rt, folder, file);
         file += 1;
     }
     if made {
         let mut label = [0u8; LABEL_ROOM];
         let end = put_label(&mut label, folder, b"sheet");
-        os::rmdir(path_in(&label[..end]));
+        let _ = rmdir(rt, &label[..end]);
     }
 }
 
@@ -148,10 +185,15 @@ fn text_of(texts: &[u8], ends: [usize; ENDS], file: usize) -> &[u8] {
     &texts[start..end]
 }
 
-fn write_all_beside(folder: &[u8], texts: &[u8], ends: [usize; ENDS]) -> bool {
+fn write_all_beside(
+    rt: &(impl Files + Eprint),
+    folder: &[u8],
+    texts: &[u8],
+    ends: [usize; ENDS],
+) -> bool {
     let mut file = 0;
     while file < FILES {
-        if !write_beside(folder, file, text_of(texts, ends, file)) {
+        if !write_beside(rt, folder, file, text_of(texts, ends, file)) {
             return false;
         }
         file += 1;
@@ -159,10 +201,10 @@ fn write_all_beside(folder: &[u8], texts: &[u8], ends: [usize; ENDS]) -> bool {
     true
 }
 
-fn put_all_in_place(folder: &[u8]) -> bool {
+fn put_all_in_place(rt: &(impl Files + Eprint), folder: &[u8]) -> bool {
     let mut file = 0;
     while file < FILES {
-        if !put_in_place(folder, file) {
+        if !put_in_place(rt, folder, file) {
             return false;
         }
         file += 1;
@@ -170,37 +212,49 @@ fn put_all_in_place(folder: &[u8]) -> bool {
     true
 }
 
-fn print(text: &[u8]) {
-    if !io::write_all(libc::STDOUT_FILENO, text) {
-        os::fail(b"sheet: standard output");
+fn print(rt: &(impl Print + Eprint), text: &[u8]) {
+    if let Err(error) = rt.write_all(text) {
+        fail(rt, b"sheet: standard output", error);
     }
 }
 
-fn write_into(folder: &[u8], texts: &[u8], ends: [usize; ENDS], made: bool) {
-    if !write_all_beside(folder, texts, ends) {
-        undo(folder, made);
+fn write_into(
+    rt: &(impl Files + Print + Eprint),
+    folder: &[u8],
+    texts: &[u8],
+    ends: [usize; ENDS],
+    made: bool,
+) {
+    if !write_all_beside(rt, folder, texts, ends) {
+        undo(rt, folder, made);
         return;
     }
-    if !put_all_in_place(folder) {
-        undo(folder, made);
+    if !put_all_in_place(rt, folder) {
+        undo(rt, folder, made);
         return;
     }
-    print(text_of(texts, ends, PRINTED));
+    print(rt, text_of(texts, ends, PRINTED));
 }
 
 // All ten files, or none.
-pub(crate) fn write_files(folder: &[u8], texts: &[u8], ends: [usize; ENDS]) {
+pub(crate) fn write_files(
+    rt: &(impl Files + Print + Eprint),
+    folder: &[u8],
+    texts: &[u8],
+    ends: [usize; ENDS],
+) {
     if texts.len() < ends[FILES] {
         say_of(
+            rt,
             folder,
             b"sheet",
             b": the ten files together are longer than 3276800 bytes\n",
         );
         return;
     }
-    match make_folder(folder) {
-        Folder::Made => write_into(folder, texts, ends, true),
-        Folder::Stood => write_into(folder, texts, ends, false),
+    match make_folder(rt, folder) {
+        Folder::Made => write_into(rt, folder, texts, ends, true),
+        Folder::Stood => write_into(rt, folder, texts, ends, false),
         Folder::Failed => {}
     }
 }

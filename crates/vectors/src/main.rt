@@ -4,6 +4,9 @@
 
 ghost use Rattle.std.specs.Prelude.{◌≡◌, ◌≤◌, true, length};
 
+use std::fs;
+use std::io::Read;
+use std::rt::Files;
 use text::{MOST_TEXT, Written};
 
 // What came of one vector.
@@ -62,9 +65,26 @@ fn size(a: u8, b: u8, c: u8, d: u8, e: u8, f: u8) -> usize {
         + digit(f)
 }
 
-fn heading(fd: i32) -> Lengths {
+// Reads until the part is full, the file ends or a read fails, and answers how many bytes stand at its front.
+fn read_full(file: &mut impl Read, part: &mut [u8]) -> usize
+    ensures { result ≤ length part.new }
+{
+    let mut done = 0;
+    while done < part.len() {
+        let Ok(more) = file.read(&mut part[done..]) else {
+            break;
+        };
+        if more == 0 {
+            break;
+        }
+        done += more;
+    }
+    done
+}
+
+fn heading(file: &mut impl Read) -> Lengths {
     let mut h = [0u8; 14];
-    let n = io::read_full(fd, &mut h);
+    let n = read_full(file, &mut h);
     if n == 0 {
         return Lengths::Nothing;
     }
@@ -110,13 +130,13 @@ fn agrees(input: &[u8], wanted: &[u8], output: &mut [u8]) -> Came {
 }
 
 // Fills the part with the file's next bytes, all of it or it is damaged.
-fn filled(fd: i32, part: &mut [u8]) -> bool {
-    let n = io::read_full(fd, part);
+fn filled(file: &mut impl Read, part: &mut [u8]) -> bool {
+    let n = read_full(file, part);
     n == part.len()
 }
 
-fn one(fd: i32, input: &mut [u8], wanted: &mut [u8], output: &mut [u8]) -> Came {
-    let head = heading(fd);
+fn one(file: &mut impl Read, input: &mut [u8], wanted: &mut [u8], output: &mut [u8]) -> Came {
+    let head = heading(file);
     match head {
         Lengths::Nothing => Came::End,
         Lengths::Broken => Came::Damaged,
@@ -127,10 +147,10 @@ fn one(fd: i32, input: &mut [u8], wanted: &mut [u8], output: &mut [u8]) -> Came 
             if expected > wanted.len() {
                 return Came::Damaged;
             }
-            if !filled(fd, &mut input[..given]) {
+            if !filled(file, &mut input[..given]) {
                 return Came::Damaged;
             }
-            if !filled(fd, &mut wanted[..expected]) {
+            if !filled(file, &mut wanted[..expected]) {
                 return Came::Damaged;
             }
             agrees(&input[..given], &wanted[..expected], output)
@@ -138,17 +158,25 @@ fn one(fd: i32, input: &mut [u8], wanted: &mut [u8], output: &mut [u8]) -> Came 
     }
 }
 
-fn said(number: u64, what: &[u8]) {
-    io::write_all(1, b"vector ");
-    io::print_decimal(1, number);
-    io::write_all(1, what);
+fn put(rt: &impl Print, words: &[u8]) {
+    let _ = rt.write_all(words);
 }
 
-fn counted(count: u64, differ: u64) {
-    io::print_decimal(1, count);
-    io::write_all(1, b" vectors, ");
-    io::print_decimal(1, differ);
-    io::write_all(1, b" differ\n");
+fn put_number(rt: &impl Print, n: u64) {
+    let _ = rt.print(n);
+}
+
+fn said(rt: &impl Print, number: u64, what: &[u8]) {
+    put(rt, b"vector ");
+    put_number(rt, number);
+    put(rt, what);
+}
+
+fn counted(rt: &impl Print, count: u64, differ: u64) {
+    put_number(rt, count);
+    put(rt, b" vectors, ");
+    put_number(rt, differ);
+    put(rt, b" differ\n");
 }
 
 // How far the walk is. The counts cannot wrap: there are 100,000 turns at most.
@@ -163,7 +191,7 @@ fn more(n: u64) -> u64 {
     std::num::wrapping_add_u64(n, 1)
 }
 
-fn noted(tally: Tally, came: Came) -> Tally {
+fn noted(rt: &impl Print, tally: Tally, came: Came) -> Tally {
     let count = tally.count;
     let differ = tally.differ;
     match came {
@@ -173,7 +201,7 @@ fn noted(tally: Tally, came: Came) -> Tally {
             ended: false,
         },
         Came::Different => {
-            said(more(count), b" differs\n");
+            said(rt, more(count), b" differs\n");
             Tally {
                 count: more(count),
                 differ: more(differ),
@@ -181,7 +209,7 @@ fn noted(tally: Tally, came: Came) -> Tally {
             }
         }
         Came::End => {
-            counted(count, differ);
+            counted(rt, count, differ);
             Tally {
                 count,
                 differ,
@@ -189,7 +217,7 @@ fn noted(tally: Tally, came: Came) -> Tally {
             }
         }
         Came::Damaged => {
-            said(more(count), b" is damaged\n");
+            said(rt, more(count), b" is damaged\n");
             Tally {
                 count,
                 differ,
@@ -200,7 +228,13 @@ fn noted(tally: Tally, came: Came) -> Tally {
 }
 
 // A proved loop has to end, and nothing says that a file does: so many vectors and no more.
-fn all(fd: i32, input: &mut [u8], wanted: &mut [u8], output: &mut [u8]) {
+fn all(
+    rt: &impl Print,
+    file: &mut impl Read,
+    input: &mut [u8],
+    wanted: &mut [u8],
+    output: &mut [u8],
+) {
     let mut tally = Tally {
         count: 0,
         differ: 0,
@@ -208,8 +242,8 @@ fn all(fd: i32, input: &mut [u8], wanted: &mut [u8], output: &mut [u8]) {
     };
     let mut turns = 100000u64;
     while turns > 0 {
-        let came = one(fd, input, wanted, output);
-        tally = noted(tally, came);
+        let came = one(file, input, wanted, output);
+        tally = noted(rt, tally, came);
         if tally.ended {
             return;
         }
@@ -246,24 +280,21 @@ fn one_short(buffer: &mut [u8]) -> bool {
     short(&mut buffer[..n - 1])
 }
 
-fn run(input: &mut [u8], wanted: &mut [u8], output: &mut [u8]) {
+fn run(rt: &(impl Files + Print + Eprint), input: &mut [u8], wanted: &mut [u8], output: &mut [u8]) {
     if one_short(output) {
-        io::write_all(1, b"a short buffer is left alone\n");
+        put(rt, b"a short buffer is left alone\n");
     } else {
-        io::write_all(1, b"a short buffer is WRITTEN TO\n");
+        put(rt, b"a short buffer is WRITTEN TO\n");
     }
-    let fd = os::open_read(b"vectors");
-    if fd < 0 {
-        os::fail(b"vectors");
-        return;
+    match fs::open(rt, "vectors") {
+        Ok(mut file) => all(rt, &mut file, input, wanted, output),
+        Err(error) => intake::fail(rt, b"vectors", error),
     }
-    all(fd, input, wanted, output);
-    libc::close(fd);
 }
 
-fn main() {
+fn main(rt: HostRuntime) {
     let mut input = input_room();
     let mut wanted = wanted_room();
     let mut output = output_room();
-    run(&mut input, &mut wanted, &mut output);
+    run(&rt, &mut input, &mut wanted, &mut output);
 }

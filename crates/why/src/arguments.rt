@@ -1,4 +1,5 @@
 // The program's arguments: the cell, and the serial of a day where one is given.
+use std::rt::Env;
 use words::{Meaning, number};
 
 // The days that are asked about.
@@ -39,37 +40,37 @@ impl Wanted {
     }
 }
 
-fn complain(words: &[u8]) {
-    io::write_all(libc::STDERR_FILENO, words);
+fn complain(rt: &impl Eprint, words: &[u8]) {
+    intake::say(rt, words);
 }
 
 // An argument's number. One that is missing, or longer than any number, is the empty word, which means none.
-fn argument(i: usize) -> Meaning {
+fn argument(rt: &impl Env, i: usize) -> Meaning {
     let mut word = [0u8; WORD];
-    let count = os::arg(i, &mut word);
+    let count = intake::argument(rt, i, &mut word);
     number(&word[..count])
 }
 
-fn serial_wanted(cell: u32) -> Asked {
-    let Meaning::Plain(serial) = argument(2) else {
-        complain(b"why: the serial is no number of 1 to 9 digits\n");
+fn serial_wanted(rt: &(impl Env + Eprint), cell: u32) -> Asked {
+    let Meaning::Plain(serial) = argument(rt, 2) else {
+        complain(rt, b"why: the serial is no number of 1 to 9 digits\n");
         return Asked::Wrong;
     };
     Asked::Cell(cell, Wanted::Serial(serial))
 }
 
-pub(crate) fn read_arguments() -> Asked {
-    let count = os::arg_count();
+pub(crate) fn read_arguments(rt: &(impl Env + Eprint)) -> Asked {
+    let count = intake::argument_count(rt);
     if (count < WITH_CELL) | (WITH_SERIAL < count) {
-        complain(b"usage: why CELL [SERIAL] < TEXT\n");
+        complain(rt, b"usage: why CELL [SERIAL] < TEXT\n");
         return Asked::Wrong;
     }
-    let Meaning::Plain(cell) = argument(1) else {
-        complain(b"why: the cell is no number of 1 to 9 digits\n");
+    let Meaning::Plain(cell) = argument(rt, 1) else {
+        complain(rt, b"why: the cell is no number of 1 to 9 digits\n");
         return Asked::Wrong;
     };
     if count < WITH_SERIAL {
         return Asked::Cell(cell, Wanted::Every);
     }
-    serial_wanted(cell)
+    serial_wanted(rt, cell)
 }

@@ -11,13 +11,13 @@ use intake::Input;
 use records::index_of;
 use run::run;
 
-fn main() {
-    let Asked::Cell(cell, wanted) = read_arguments() else {
+fn main(rt: HostRuntime) {
+    let Asked::Cell(cell, wanted) = read_arguments(&rt) else {
         return;
     };
     let mut input = intake::input_room();
-    let Input::Bytes(count) = intake::read_input(b"why: standard input", &mut input) else {
+    let Input::Bytes(count) = intake::read_input(&rt, b"why: standard input", &mut input) else {
         return;
     };
-    run(&input[..count], index_of(cell), wanted);
+    run(&rt, &input[..count], index_of(cell), wanted);
 }

@@ -20,36 +20,37 @@ pub(crate) struct Progress {
 const LAST_LINE: usize = 64;
 
 // Whether all of it was written; a failed write is said on standard error.
-pub(crate) fn print(text: &[u8]) -> bool {
-    if !io::write_all(libc::STDOUT_FILENO, text) {
-        os::fail(b"why: standard output");
+pub(crate) fn print(rt: &(impl Print + Eprint), text: &[u8]) -> bool {
+    if let Err(error) = rt.write_all(text) {
+        intake::fail(rt, b"why: standard output", error);
         return false;
     }
     true
 }
 
 // The last line of a text that is refused before anything is run.
-pub(crate) fn print_refused(number: u64, place: u64) {
+pub(crate) fn print_refused(rt: &(impl Print + Eprint), number: u64, place: u64) {
     let mut line = [0u8; LAST_LINE];
     let end = refused(&mut line, 0, number, place);
-    print(&line[..end]);
+    print(rt, &line[..end]);
 }
 
-pub(crate) fn print_refusal(why: Refusal) {
+pub(crate) fn print_refusal(rt: &(impl Print + Eprint), why: Refusal) {
     let mut line = [0u8; LAST_LINE];
     let end = refusal(&mut line, 0, why);
-    print(&line[..end]);
+    print(rt, &line[..end]);
 }
 
-fn say_missing(serial: u32) {
+fn say_missing(rt: &impl Eprint, serial: u32) {
     let mut line = [0u8; LAST_LINE];
     let next = put_bytes(&mut line, 0, b"why: no day of the text has serial ");
     let end = put_item(&mut line, next, wide(serial), b'\n');
-    io::write_all(libc::STDERR_FILENO, &line[..end]);
+    intake::say(rt, &line[..end]);
 }
 
 // Prints a day's lines where it is asked about, or its refusal. That, a failed write, or the one day that was asked about ends the run.
 pub(crate) fn show(
+    rt: &(impl Print + Eprint),
     progress: Progress,
     wanted: Wanted,
     serial: u32,
@@ -67,14 +68,14 @@ pub(crate) fn show(
     };
     match told {
         Told::Last(end) => {
-            print(&lines[..end]);
+            print(rt, &lines[..end]);
             stopped
         }
         Told::More(end) => {
             if !wanted.is(serial) {
                 return progress;
             }
-            if !print(&lines[..end]) {
+            if !print(rt, &lines[..end]) {
                 return stopped;
             }
             Progress {
@@ -87,18 +88,18 @@ pub(crate) fn show(
 }
 
 // The last line of a run whose days were all accepted; a serial that no day had is said on standard error.
-pub(crate) fn print_end(progress: Progress, wanted: Wanted) {
+pub(crate) fn print_end(rt: &(impl Print + Eprint), progress: Progress, wanted: Wanted) {
     if !progress.ends {
         return;
     }
     let shown = progress.shown;
     let mut line = [0u8; LAST_LINE];
     let end = ended(&mut line, 0, shown);
-    print(&line[..end]);
+    print(rt, &line[..end]);
     let Wanted::Serial(serial) = wanted else {
         return;
     };
     if shown == 0 {
-        say_missing(serial);
+        say_missing(rt, serial);
     }
 }

@@ -13,6 +13,7 @@ use text::{
 
 // Prints the lines of the days asked about, each as soon as it is worked out, and the last line.
 fn days(
+    rt: &(impl Print + Eprint),
     numbers: &[u32],
     from: usize,
     count: usize,
@@ -45,14 +46,15 @@ fn days(
         );
         past = explained.past;
         let told = explained.told;
-        progress = show(progress, wanted, day.serial, told, &lines);
+        progress = show(rt, progress, wanted, day.serial, told, &lines);
         k += 1;
     }
-    print_end(progress, wanted);
+    print_end(rt, progress, wanted);
 }
 
 // The fresh state, tested with the cell asked about, and the days from it on.
 fn begun(
+    rt: &(impl Print + Eprint),
     numbers: &[u32],
     layout: Layout,
     covers: &[u32],
@@ -75,16 +77,16 @@ fn begun(
     let verdict = start.verdict;
     let past = start.past;
     match reasons::asked(verdict, grid, cell) {
-        Verdict::Refused(why) => print_refusal(why),
+        Verdict::Refused(why) => print_refusal(rt, why),
         Verdict::Accepted => days(
-            numbers, from, count, grid, climate, covers, direction, cover, group, water, soil,
+            rt, numbers, from, count, grid, climate, covers, direction, cover, group, water, soil,
             snow, past, cell, wanted,
         ),
     }
 }
 
 // Numbers that are ready for the run.
-fn started(numbers: &[u32], layout: Layout, cell: usize, wanted: Wanted)
+fn started(rt: &(impl Print + Eprint), numbers: &[u32], layout: Layout, cell: usize, wanted: Wanted)
     requires { Complete numbers.now layout }
 {
     let front = FRONT_NUMBERS;
@@ -97,6 +99,7 @@ fn started(numbers: &[u32], layout: Layout, cell: usize, wanted: Wanted)
     let mut soil = [0u32; MOST_CELLS];
     let mut snow = [0u32; MOST_CELLS];
     begun(
+        rt,
         numbers,
         layout,
         &numbers[front..from],
@@ -112,13 +115,13 @@ fn started(numbers: &[u32], layout: Layout, cell: usize, wanted: Wanted)
 }
 
 // A text from its first byte on.
-pub(crate) fn run(input: &[u8], cell: usize, wanted: Wanted) {
+pub(crate) fn run(rt: &(impl Print + Eprint), input: &[u8], cell: usize, wanted: Wanted) {
     let mut numbers = [0u32; MOST_NUMBERS];
     match take_up(input, &mut numbers) {
-        Taken::Refused(number, place) => print_refused(number, place),
+        Taken::Refused(number, place) => print_refused(rt, number, place),
         Taken::Ready(layout) => {
             let count = layout.numbers;
-            started(&numbers[..count], layout, cell, wanted);
+            started(rt, &numbers[..count], layout, cell, wanted);
         }
     }
 }

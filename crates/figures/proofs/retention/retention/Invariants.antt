@@ -1,0 +1,9 @@
+-- `retention::retention` is safe and ends: the capacities that are left fall.
+use Rattle.std.proofs.Common.{◌-◌, ◌≤◌}
+use Rattle.figures.proofs.retention.retention.Given as goal
+
+abbrev pub invariant-loop-tenths : goal.invariant-loop-tenths
+invariant-loop-tenths g l = l.tenths ≤ 173
+
+abbrev pub decreases-loop-tenths : goal.decreases-loop-tenths
+decreases-loop-tenths g l = 173 - l.tenths
