@@ -18,6 +18,7 @@ pub struct Explained {
 }
 
 // What a day left of a cell.
+#[tactic(auto, unfolding(crate::specs::Telling::figures_by))]
 fn figures_at(
     intercepted: &[u32; MOST_CELLS],
     outflow: &[u32; MOST_CELLS],

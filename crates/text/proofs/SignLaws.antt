@@ -50,4 +50,4 @@ none_degrees c h = let most : min c (no_number - 1) ≡ 1999999999 = omega arith
 -- kept in a field of a record
 pub degrees_kept : (c : ℕ) (z : ℤ) → z ≡ degrees c → to_z w32 (of_z w32 z) ≡ degrees c
 unfolding degrees
-degrees_kept c z e = to_z-of_z (rw e (signed_fits (min c (no_number - 1)) (omega arith))) ∙ e
+degrees_kept c z e = to_z-of_z {w = w32} {z = z} (rw e (signed_fits (min c (no_number - 1)) (omega arith))) ∙ e

@@ -1,6 +1,6 @@
 -- `reading::gather` meets its contract. The loop's invariant: the reader stands in the text, so that what is stored and what is left to read are all
 -- that is read. The laws of that standing are the loop's four ways on.
-use Rattle.std.proofs.Common.{◌-◌, arith}
+use Rattle.std.proofs.Common.{arith}
 use Rattle.lines.proofs.ReadingLaws.{stands_first, text_end, blanks_end, room_left, next_number, bad_end}
 use Rattle.lines.proofs.reading.gather.Goals as goal
 

@@ -1,6 +1,6 @@
 -- `knots::retention` meets its contract: the rule is written from the front of the array on, first the kept entries, then each entry one step after
 -- the one that stands a row before it; and the last kept entry ends it.
-use Rattle.std.proofs.Common.{◌≡◌, ◌-◌, arith, rules}
+use Rattle.std.proofs.Common.{◌≡◌, arith, rules}
 use Rattle.retention.proofs.RetentionTable.{filled_none, filled_kept, filled_next, filled_whole}
 use Rattle.retention.proofs.knots.retention.Goals as goal
 

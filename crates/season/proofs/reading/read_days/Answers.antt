@@ -1,6 +1,6 @@
 -- `reading::read_days` meets its contract. The loop's invariant: the reader stands before a word, so that what is stored and what is left to read are all
 -- that is read.
-use Rattle.std.proofs.Common.{sym, ◌∙◌, ◌-◌, arith}
+use Rattle.std.proofs.Common.{sym, ◌∙◌, arith}
 use Rattle.season.proofs.ReadingLaws.{stands_first, count_few, next_number, bad_end, all_read}
 use Rattle.season.proofs.reading.read_days.Goals as goal
 

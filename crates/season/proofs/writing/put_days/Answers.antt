@@ -1,5 +1,5 @@
 -- `writing::put_days` meets its contract: as many lines are put as the loop has passed.
-use Rattle.std.proofs.Common.{◌-◌, arith, rules}
+use Rattle.std.proofs.Common.{arith, rules}
 use Rattle.words.proofs.WritingLaws.{put_length}
 use Rattle.season.proofs.LinesLaws.{days_none, days_more, days_all}
 use Rattle.season.proofs.writing.put_days.Goals as goal
@@ -8,12 +8,11 @@ pub loop-k-init : goal.loop-k-init
 loop-k-init c = (search rules, days_none _ _ _)
 
 pub loop-k-preserved : goal.loop-k-preserved
-loop-k-preserved c =
-    (
-      search rules,
-      days_more _ _ c.loop-k.k _ _ (omega (arith, c.well_formed)) c.day_at-day.ensures c.totals_at.ensures
-          c.loop-k.invariant.1 c.line-next.ensures,
-    )
+loop-k-preserved c = (
+  search rules,
+  days_more _ _ c.loop-k.k _ _ (omega (arith, c.well_formed)) c.day_at-day.ensures c.totals_at.ensures
+      c.loop-k.invariant.1 c.line-next.ensures,
+)
 
 pub shape_of-output : goal.shape_of-output
 shape_of-output c = put_length c.loop-k.invariant.1
