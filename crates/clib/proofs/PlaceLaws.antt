@@ -15,7 +15,6 @@ use Rattle.paper.specs.Covers.{entries, size_fits}
 use Rattle.paper.specs.Setup.{Setup, Grid, cells_of, grid_fits}
 use Rattle.paper.specs.State.{State, Day}
 use Rattle.paper.specs.Refusals.{grid, place_of, verdict_place, Test, verdict, single, judged, cover_places, setup_tests, map_tests, day_tests}
-use Rattle.paper.specs.Day as paper
 use Rattle.paper.proofs.RefusalLaws.{fail_single, pass_single}
 use Rattle.clib.specs.Narrow.{narrow}
 

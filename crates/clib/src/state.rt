@@ -45,6 +45,7 @@ pub(crate) fn past_from(memory: &[u32; 5], last_serial: u32, frost_index: u32) -
     }
 }
 
+#[tactic(auto, unfolding(crate::specs::Numbers::memory_list))]
 pub(crate) fn memory_kept(kept: Past) -> [u32; 5]
     requires { Narrow (past_as kept) }
     ensures { result ≡ memory_list (memory_as kept.memory) }
@@ -64,6 +65,7 @@ pub(crate) fn memory_kept(kept: Past) -> [u32; 5]
     ]
 }
 
+#[tactic(auto, unfolding(crate::specs::Numbers::last_number))]
 pub(crate) fn serial_kept(kept: Past) -> u32
     ensures { result ≡ last_number (last_as kept.last) }
 {
@@ -83,6 +85,7 @@ pub(crate) fn index_kept(kept: Past) -> u32
 }
 
 // In the paper's order.
+#[tactic(auto, unfolding(crate::specs::Numbers::totals_list))]
 pub(crate) fn figures_of(totals: Totals) -> [u64; 7]
     ensures { result ≡ totals_list (totals_as totals) }
 {

@@ -13,6 +13,7 @@ use reasons::Why;
 use records::{index_of, wide};
 
 // The reason's number and its two depths; zeros where there is none.
+#[tactic(auto, unfolding(crate::specs::Whys::reason_list))]
 fn told(why: Why) -> [u64; 3]
     ensures { result ≡ reason_list (why_as why) }
 {

@@ -111,6 +111,7 @@ pub fn waters_in(numbers: &[u32]) -> [u32; MOST_CELLS]
 }
 
 // A cell's group; 0, which is no group, where its direction is below zero.
+#[tactic(auto, unfolding(crate::specs::Program::group_given))]
 fn group(direction: u32, given: u32) -> u32
     ensures { result ≡ group_given direction given }
 {

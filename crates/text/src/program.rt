@@ -33,6 +33,7 @@ fn text(input: &[u8], output: &mut [u8]) -> usize
 }
 
 // What the program `balance` prints for an input, written from the front of a lent buffer.
+#[tactic(auto, using(crate::proofs::PrintedLaws::no_room, crate::proofs::PrintedLaws::with_room))]
 pub fn balance_text(input: &[u8], output: &mut [u8]) -> Written
     ensures { Printed input.now output.old output.new result }
 {

@@ -1,0 +1,72 @@
+-- `calls::recharge_day` meets its contract: the library is handed the lent past and day as the paper reads them, its answer is the paper's, and it is
+-- written as C's numbers. The memory's figures fit 32 bits, since they are the lent ones and today's; the frost index too, since it is the lent one
+-- or within its limit.
+use Rattle.paper.specs.Setup.{Setup}
+use Rattle.paper.specs.State.{State, Day}
+use Rattle.paper.specs.Day.{Results, Outcome}
+use Rattle.records.specs.Grids.{setup_as}
+use Rattle.records.specs.Past.{past_as, state_as}
+use Rattle.records.specs.Days.{day_as}
+use Rattle.records.specs.Answers.{outcome_as}
+use Rattle.clib.specs.Given.{setup_from, day_from}
+use Rattle.clib.specs.Narrow.{Narrow}
+use Rattle.clib.specs.Handed.{Stores, stores_from, results_from}
+use Rattle.clib.proofs.HandedLaws.{same_setup, day_placed, day_narrow, day_handed}
+use Rattle.clib.proofs.calls.recharge_day.Goals.{After-day-answer}
+use Rattle.clib.proofs.calls.recharge_day.Goals as goal
+
+-- what was lent, what the library was handed, and what it answered
+module _ (c : goal.After-day-answer) where
+  abbrev the_setup : Setup
+  the_setup =
+      setup_from c.args.site c.args.covers.now c.args.direction.now c.args.cover.now c.args.group.now c.args.available.now
+
+  abbrev the_stores : Stores
+  the_stores = stores_from c.args.soil.now c.args.snow.now c.args.memory.now c.args.last_serial.now c.args.frost_index.now
+
+  abbrev the_results : Results
+  the_results =
+      results_from c.args.intercepted.now c.args.outflow.now c.args.evapotranspired.now c.args.recharged.now c.args.rejected.now
+
+  abbrev handed_setup : Setup
+  handed_setup =
+      setup_as c.grid_of-grid.result c.climate_of-climate.result c.args.covers.now c.args.direction.now
+      c.args.cover.now c.args.group.now c.args.available.now
+
+  abbrev handed_state : State
+  handed_state = state_as c.args.soil.now c.args.snow.now c.past_from-past.result
+
+  abbrev handed_day : Day
+  handed_day = day_as c.record_of.result
+
+  abbrev answered : Outcome
+  answered =
+      let new = c.day-answer.new in
+      outcome_as c.day-answer.result new.soil new.snow
+      (results_from new.intercepted new.outflow new.evapotranspired new.recharged new.rejected)
+
+  narrow_past : Narrow answered.state.past
+  narrow_past =
+      day_narrow handed_setup handed_state the_results handed_day {o = answered} c.day-answer.ensures
+      c.past_from-past.ensures.1 c.record_of.ensures.1
+
+pub memory_kept-requires : goal.memory_kept-requires
+memory_kept-requires c = narrow_past (goal.at.memory_kept-requires c).After-day-answer
+
+pub index_kept-requires : goal.index_kept-requires
+index_kept-requires c = narrow_past (goal.at.index_kept-requires c).After-day-answer
+
+pub returned_as-requires : goal.returned_as-requires
+returned_as-requires c =
+    let day = (goal.at.returned_as-requires c).After-day-answer in
+    day_placed (handed_setup day) (handed_state day) (the_results day) (handed_day day) {o = answered day} c.day-answer.ensures
+
+pub returns : goal.returns
+returns c =
+    let day = (goal.at.returns c).After-day-answer in
+    day_handed (the_setup day) (the_stores day) (the_results day) (day_from c.args.day)
+    {t = handed_setup day} {p = past_as c.past_from-past.result} {z = handed_day day} {o = answered day} c.day-answer.ensures
+    (same_setup _ _ _ c.grid_of-grid.ensures c.climate_of-climate.ensures _ _ _ _ _)
+    c.record_of.ensures.0 c.past_from-past.ensures.0 c.returned_as.ensures
+    c.memory_kept.ensures c.serial_kept.ensures
+    c.index_kept.ensures c.figures_of.ensures
