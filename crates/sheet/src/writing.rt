@@ -96,7 +96,8 @@ fn synced(file: &impl OpenFile) -> Result<(), Error> {
     match file.sync_all() {
         Ok(()) => Ok(()),
         Err(error) => {
-            if error.kind() == ErrorKind::InvalidInput {
+            let kind = error.kind();
+            if (kind == ErrorKind::InvalidInput) | (kind == ErrorKind::Unsupported) {
                 return Ok(());
             }
             Err(error)
