@@ -126,10 +126,10 @@ static void ground_and_snow(void)
     end("");
     begin("3", "snow or rain");
     falls(280, 360, 400), falls(280, 361, 400);
-    end("`mean-360`, `mean-361` in `StarredFigures`");
+    end("`mean_360`, `mean_361` in `StarredFigures`");
     begin("3", "melt");
     melts(deep, 320), melts(deep, 321), melts(deep, 500), melts(deep, 1500);
-    end("`melt-320`, `melt-321`, `melt-500`, `melt-1500` in `StarredFigures`");
+    end("`melt_320`, `melt_321`, `melt_500`, `melt_1500` in `StarredFigures`");
     begin("3", "melt");
     melts(9090, 485), melts(3677, 485), melts(deep, 322);
     end("");
@@ -139,10 +139,10 @@ static void conditions(void)
 {
     begin("5", "condition");
     wetness(true, 13999), wetness(true, 14000), wetness(true, 21000), wetness(true, 21001);
-    end("`sum-13999`, `sum-14000`, `sum-21000`, `sum-21001` in `StarredFigures`");
+    end("`sum_13999`, `sum_14000`, `sum_21000`, `sum_21001` in `StarredFigures`");
     begin("5", "condition");
     wetness(false, 4999), wetness(false, 5000), wetness(false, 11000), wetness(false, 11001);
-    end("`dormant-sums` in `EdgeFigures`");
+    end("`dormant_sums` in `EdgeFigures`");
     begin("5", "curve number c");
     curve(75, CONDITION_I), curve(75, CONDITION_III), curve(30, CONDITION_I), curve(30, CONDITION_III);
     curve(100, CONDITION_I), curve(100, CONDITION_III);
@@ -156,13 +156,13 @@ static void frosts(void)
 {
     begin("M-106", "next index");
     frost(0, 319), frost(1000, 321), frost(55674, 140), frost(79919, 140), frost(85000, 400);
-    end("`tenth-below`, `tenth-above`, `winter`, `thawing` in `FrostFigures`");
+    end("`tenth_below`, `tenth_above`, `winter`, `thawing` in `FrostFigures`");
     begin("M-106", "next index");
     frost(85568, 320), frost(85567, 320), frost(0, 700);
     end("");
     begin("M-106", "condition I counts as");
     counts(55999), counts(56000), counts(82999), counts(83000);
-    end("`below-first`, `at-first`, `below-second`, `at-second` in `FrostFigures`");
+    end("`below_first`, `at_first`, `below_second`, `at_second` in `FrostFigures`");
 }
 
 static void runoff_and_soil(void)
@@ -175,13 +175,13 @@ static void runoff_and_soil(void)
     end("");
     begin("8", "retention");
     retention(10), retention(11);
-    end("`F-10`, `F-11` in `StarredFigures`");
+    end("`F_10`, `F_11` in `StarredFigures`");
     begin("8", "retention");
     retention(0), retention(1), retention(2048);
     end("");
     begin("8", "loss");
     loss(50000, 50000, 2000), loss(0, 0, 2000);
-    end("`loss-2000` in `StarredFigures`, `loss-none` in `RetentionLaws`");
+    end("`loss_2000` in `StarredFigures`, `loss_none` in `RetentionLaws`");
     begin("8", "loss");
     loss(50000, 25000, 2000), loss(18000, 18000, 2000);
     end("");
