@@ -1,8 +1,8 @@
 #!/bin/sh
 # native.sh CRATE OUT: a proved library for a C program of this machine to link.
 #
-# `rt lib` proves the crate, with all that it stands on, and writes an archive for x86-64. There OUT is that archive. What Rattle's crates call as clib is
-# exported to C by clib_c: of clib OUT is that one's.
+# `rt lib` proves the crate, with all that it stands on, and writes an archive for x86-64. There OUT is that archive. A library is exported to
+# C by a thin crate beside it, CRATE_c: OUT is that one's.
 # On another processor the archive runs under an emulator only, and its times say nothing. So the module that the toolchain
 # compiles into the archive is kept on its way, and the toolchain's own clang compiles it once more, for this processor: OUT is
 # that object. It serves to compare and to time; what is shipped is the archive. NATIVE_AGAIN=1 takes this way on x86-64 too.
@@ -15,8 +15,7 @@ root=$(cd "$(dirname "$0")/.." && pwd)
 case $out in /*) ;; *) out=$(pwd)/$out ;; esac
 cd "$root"
 kept=bench/build/native/$crate-$machine${NATIVE_AGAIN:+-again}
-exported=$crate
-[ "$crate" != clib ] || exported=clib_c
+exported=${crate}_c
 archive=crates/$exported/out/lib$exported.a
 sources=$({ rt version; cat crates.txt; find crates -type f ! -path '*/must-fail/*' ! -path 'crates/*/out/*' | LC_ALL=C sort | xargs cksum; } | cksum)
 if [ -f "$kept.sum" ] && [ -f "$archive" ] && [ "$(cat "$kept.sum")" = "$sources $(cksum <"$archive")" ]; then

@@ -7,7 +7,7 @@
 # A tool that is missing fails the comparison, which is never left out: rt runs no program of this repository without them either.
 set -eu
 cd "$(dirname "$0")"
-archives='../crates/clib_c/out/libclib_c.a ../crates/cperiod/out/libcperiod.a' made=build/x86-64
+archives='../crates/clib_c/out/libclib_c.a ../crates/cperiod_c/out/libcperiod_c.a' made=build/x86-64
 mkdir -p $made
 . ./files.sh
 kit=${RATTLE_HOME:-$(cd "$(dirname "$(readlink -f "$(command -v rt)")")/.." && pwd -P)}

@@ -8,8 +8,8 @@
  * for every input, refused or not, is proved (crates/clib, crates/cperiod, docs/PROMISES.md). "Test" and "rule" numbers are
  * document 01's.
  *
- * Build the library with `rt staticlib clib` and link target/staticlib/libclib.a, for x86-64 Linux. recharge_period alone is in an
- * archive of its own, target/staticlib/libcperiod.a, which `rt staticlib cperiod` builds; a program may link either or both. Of the C
+ * `bench/native.sh clib libclib.a` proves and builds the library, for x86-64 Linux; link libclib.a. recharge_period alone is in an
+ * archive of its own, which `bench/native.sh cperiod libcperiod.a` builds; a program may link either or both. Of the C
  * library they need memcpy and memset, and nothing else. examples/c has three programs over libclib.a.
  *
  * Units: a depth is a whole number of 0.0001 inch, a temperature a whole number of tenths of a degree Fahrenheit, a frost

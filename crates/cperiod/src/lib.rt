@@ -1,5 +1,5 @@
-// A whole period for C. It is a library of its own, beside clib's, whose structs and numbers it shares: an archive has only the calls of its own crate, and
-// clib's is dear to check. include/recharge.h says it to C.
+// A whole period for C, over plain numbers. It is a library of its own, beside clib, whose structs and numbers it shares: clib is dear to check. cperiod_c
+// exports it to C.
 #![tactic(auto)]
 
 mod period;

@@ -20,8 +20,7 @@ fn returned_as(verdict: Verdict) -> u64
     wide(verdict.number()) * NUMBER + verdict.place() as u64
 }
 
-#[unsafe(no_mangle)]
-pub extern "C" fn recharge_period(
+pub fn recharge_period(
     site: Site,
     covers: &[u32],
     direction: &[u32],

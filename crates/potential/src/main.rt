@@ -22,7 +22,8 @@ fn print(rt: &(impl Print + Eprint), text: &[u8]) {
 
 fn main(rt: HostRuntime) {
     let mut input = intake::input_room();
-    let Input::Bytes(count) = intake::read_input(&rt, b"potential: standard input", &mut input) else {
+    let Input::Bytes(count) = intake::read_input(&rt, b"potential: standard input", &mut input)
+    else {
         return;
     };
     let mut output = output_room();
