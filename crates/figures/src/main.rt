@@ -7,13 +7,13 @@ mod frost;
 mod one_cell;
 mod printing;
 mod refusals;
-mod retention;
+mod retaining;
 mod winter;
 
 use curve_numbers::curve_numbers;
 use frost::frost_days;
 use refusals::refusals;
-use retention::{capacity, retention};
+use retaining::{capacity, retention};
 use winter::{melts, winter_days};
 
 fn main(rt: HostRuntime) {

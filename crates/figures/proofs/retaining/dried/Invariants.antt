@@ -1,6 +1,6 @@
--- `retention::dried` is safe and ends: the days that are left fall.
+-- `retaining::dried` is safe and ends: the days that are left fall.
 use Rattle.std.proofs.Common.{◌-◌, ◌≤◌}
-use Rattle.figures.proofs.retention.dried.Given as goal
+use Rattle.figures.proofs.retaining.dried.Given as goal
 
 abbrev pub invariant-loop-day : goal.invariant-loop-day
 invariant-loop-day l = (l.tenths ≤ 172) × (l.day ≤ l.days)

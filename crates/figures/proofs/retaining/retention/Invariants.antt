@@ -1,6 +1,6 @@
--- `retention::retention` is safe and ends: the capacities that are left fall.
+-- `retaining::retention` is safe and ends: the capacities that are left fall.
 use Rattle.std.proofs.Common.{◌-◌, ◌≤◌}
-use Rattle.figures.proofs.retention.retention.Given as goal
+use Rattle.figures.proofs.retaining.retention.Given as goal
 
 abbrev pub invariant-loop-tenths : goal.invariant-loop-tenths
 invariant-loop-tenths g l = l.tenths ≤ 173
