@@ -3,6 +3,8 @@ ghost use Rattle.words.specs.Writing.{Put, Wrote};
 ghost use Rattle.words.specs.Inches.{four_digits, inches, most_inches};
 
 use crate::putting::{put_item, put_number};
+use std::fmt;
+use std::fmt::{Display, Formatter};
 
 const UNITS_PER_INCH: u64 = 10000;
 
@@ -21,4 +23,16 @@ pub fn put_inches(buffer: &mut [u8], at: usize, units: u64) -> usize
 {
     let point = put_item(buffer, at, units / UNITS_PER_INCH, b'.');
     put_four(buffer, point, units % UNITS_PER_INCH)
+}
+
+// A depth in units, printed in inches.
+#[derive(Clone, Copy, PartialEq, Eq)]
+pub struct Inches(pub u64);
+
+impl Display for Inches {
+    fn fmt<W: fmt::Write>(&self, f: &mut Formatter<W>) -> fmt::Result {
+        let whole = self.0 / UNITS_PER_INCH;
+        let parts = self.0 % UNITS_PER_INCH;
+        write!(f, "{whole}.{parts:04}")
+    }
 }

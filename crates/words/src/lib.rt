@@ -4,10 +4,12 @@
 
 mod inches;
 mod numbers;
+mod page;
 mod putting;
 mod spans;
 
-pub use inches::put_inches;
+pub use inches::{Inches, put_inches};
 pub use numbers::{Meaning, is_digit, number};
+pub use page::Page;
 pub use putting::{put_below, put_byte, put_bytes, put_item, put_number};
 pub use spans::{Span, line_end, next_word};
