@@ -2,18 +2,21 @@
 use mathlib.Core.Path.{◌≡◌, refl, sym, ap, ◌∙◌}
 use mathlib.Core.Bool.{Bool, true, false, cond, ◌&&◌, ◌||◌}
 use mathlib.Core.List.{List, [], ◌∷◌}
-use Prim.Native.Nat.{ℕ, suc, ◌+◌, ◌*◌, ◌-◌, ◌^◌, ◌≤◌, ◌<◌}
+use Prim.Native.Nat.{ℕ, zero, suc, ◌+◌, ◌*◌, ◌-◌, ◌^◌, ◌≤◌, ◌<◌}
 use native.Mathlib.Nat.{not-suc-le-zero, add-zero, add-suc, suc-add, sub_self, pow-suc, pow-le-pow_right}
 use native.Mathlib.Numerals.{add-one}
 use native.Mathlib.Omega.{arith}
 use lib.Dec.{eqb, leb, lit≤, eqb-suc-zero}
-use lib.IntN.{ℤ, pos, negsuc}
+use lib.IntN.{ℤ, pos, negsuc, ◌-ℤ◌}
 use lib.ListN.{length, get_or, drop, length-drop, drop_of_length-le}
 use lib.Seq.{drop-cons}
-use borrow.Author.Tests.{le-leb, lt-leb, eq-eqb, ne_eqb, leb-true, eqb-true}
+use borrow.Author.Tests.{lt-ltb, le-leb, lt-leb, eq-eqb, ne_eqb, leb-true, eqb-true}
 use Rattle.theory.proofs.Cases.{by_cases, below_or_not, and_left, and_right}
-use Rattle.words.specs.Numbers.{is_digit, all_digits, spelled, Word, good, bad, is_first_digit, is_count, is_zero, number, meaning_in, spelled_by, count_of}
-use Rattle.words.specs.declared.numbers.Meaning.TheVariants.{Plain, Below, Bad}
+use Rattle.words.specs.Numbers.{is_digit, all_digits, spelled, Word, good, bad, is_first_digit, is_count, is_zero, number, number_in, spelled_in, count_in}
+use Rattle.std.specs.Prelude.{Some, None}
+use mir.Syntax.{w32}
+use mir.Val.{SFits as FitsSigned, to_z, of_z}
+use mir.Facts.{to_z-of_z, to_z_pos}
 
 pub digit_low : (b : ℕ) → is_digit b ≡ true → 48 ≤ b
 unfolding is_digit
@@ -48,18 +51,18 @@ first_is b n =
     (λ h. rw (le-leb 48 b h, le-leb 49 b (omega (arith, n))) refl)
 
 -- digit by digit: the byte at a place goes on with what is spelled, or is no digit
-module _ (l : List ℕ) (i : ℕ) where
-  pub spelled_next : (n : ℕ) → i < length l → is_digit (get_or l i 0) ≡ true → spelled_by n (drop i l) ≡ spelled_by (10 * n + (get_or l i 0 - 48)) (drop (i + 1) l)
-  unfolding spelled_by all_digits spelled
-  spelled_next n h e = rw (drop-cons l i 0 h, e, add-one i) refl
+module _ (l : List ℕ) (i n : ℕ) where
+  pub spelled_next : i < length l → is_digit (get_or l i 0) ≡ true → spelled_in n (drop i l) ≡ spelled_in (10 * n + (get_or l i 0 - 48)) (drop (i + 1) l)
+  unfolding spelled_in all_digits spelled
+  spelled_next h e = rw (drop-cons l i 0 h, e, add-one i) refl
 
-  pub spelled_stop : (n : ℕ) → i < length l → is_digit (get_or l i 0) ≡ false → spelled_by n (drop i l) ≡ 0
-  unfolding spelled_by all_digits spelled
-  spelled_stop n h e = rw (drop-cons l i 0 h, e) refl
+  pub spelled_stop : i < length l → is_digit (get_or l i 0) ≡ false → spelled_in n (drop i l) ≡ None
+  unfolding spelled_in all_digits spelled
+  spelled_stop h e = rw (drop-cons l i 0 h, e) refl
 
-  pub spelled_end : (n : ℕ) → length l ≤ i → spelled_by n (drop i l) ≡ n
-  unfolding spelled_by all_digits spelled
-  spelled_end n h = rw (drop_of_length-le l {i = i} h) refl
+  pub spelled_end : length l ≤ i → spelled_in n (drop i l) ≡ Some n
+  unfolding spelled_in all_digits spelled
+  spelled_end h = rw (drop_of_length-le l {i = i} h) refl
 
 pub eight_digits : (n k : ℕ) → k ≤ 8 → n < 10 ^ k → n < 100000000
 eight_digits n k h less = let p : 10 ^ k ≤ 10 ^ 8 = pow-le-pow_right {n = 10} (lit≤ tt) h in omega arith
@@ -70,29 +73,24 @@ no_digit i = rw (sub_self i) (omega arith)
 pub next_digit : (n d k k' : ℕ) → k' ≡ suc k → d ≤ 9 → n < 10 ^ k → 10 * n + d < 10 ^ k'
 next_digit n d k k' e h less = rw e (omega (arith, pow-suc 10 k))
 
-ten_digits : (ds : List ℕ) → 9 < length ds → count_of ds ≡ 0
-unfolding count_of is_count
-ten_digits [] h = absurd (not-suc-le-zero h)
-ten_digits (b ∷ bs) h = rw (lt-leb (length bs) 8 (omega arith)) (by_cases (is_first_digit b) (λ e. rw e refl) (λ e. rw e refl))
+-- the tests of a number without a sign, which begins with a byte
+pub count_nothing : (w : List ℕ) → length w ≡ 0 → None ≡ count_in w
+unfolding count_in is_count
+count_nothing [] h = refl
+count_nothing (b ∷ bs) h = absurd (omega arith)
 
--- the tests of a number without a sign, from a place on
-module _ (l : List ℕ) (i : ℕ) where
-  pub count_none : length l ≤ i → count_of (drop i l) ≡ 0
-  unfolding count_of is_count
-  count_none h = rw (drop_of_length-le l {i = i} h) refl
+module _ (w : List ℕ) (b : ℕ) (bs : List ℕ) (e : w ≡ b ∷ bs) where
+  pub count_nought : b ≡ 48 → None ≡ count_in w
+  unfolding count_in is_count is_first_digit
+  count_nought h = rw (e, h) refl
 
-  pub count_long : 9 < length l - i → count_of (drop i l) ≡ 0
-  count_long h = ten_digits (drop i l) (rw (length-drop i l) h)
+  pub count_long : 9 ≤ length bs → None ≡ count_in w
+  unfolding count_in is_count
+  count_long h = rw (e, lt-leb (length bs) 8 (omega arith)) (by_cases (is_first_digit b) (λ d. rw d refl) (λ d. rw d refl))
 
-  pub count_nought : i < length l → get_or l i 0 ≡ 48 → count_of (drop i l) ≡ 0
-  unfolding count_of is_count is_first_digit
-  count_nought h e = rw (drop-cons l i 0 h, e) refl
-
-  pub count_spelled : i < length l → length l - i ≤ 9 → (get_or l i 0 ≡ 48 → ⊥) → spelled_by 0 (drop i l) ≡ count_of (drop i l)
-  unfolding count_of is_count spelled_by all_digits
-  count_spelled h short n =
-      let few : length (drop (suc i) l) ≤ 8 = omega (arith, length-drop (suc i) l) in
-      rw (drop-cons l i 0 h, first_is (get_or l i 0) n, le-leb (length (drop (suc i) l)) 8 few) refl
+  pub count_spelled : length bs ≤ 8 → (b ≡ 48 → ⊥) → spelled_in 0 w ≡ count_in w
+  unfolding count_in is_count spelled_in all_digits
+  count_spelled short n = rw (e, first_is b n, le-leb (length bs) 8 short) refl
 
 -- a number that is spelled is above 0
 more_spelled : (ds : List ℕ) (m : ℕ) → 1 ≤ m → 1 ≤ spelled m ds
@@ -106,69 +104,6 @@ count_above [] e = absurd (let z : ◌≡◌ {A = Bool} false true = e in let o 
 count_above (b ∷ bs) e =
     let low : 49 ≤ b = leb-true 49 b (and_left (leb 49 b) (leb b 57) (and_left (leb 49 b && leb b 57) (leb (length bs) 8 && all_digits bs) e)) in
     more_spelled bs (10 * 0 + (b - 48)) (omega arith)
-
-no_count : (ds : List ℕ) → count_of ds ≡ 0 → is_count ds ≡ false
-unfolding count_of
-no_count ds e = by_cases (is_count ds) (λ t. absurd (omega (arith, count_above ds t, rw t at e))) (λ f. f)
-
-a_count : (ds : List ℕ) → (count_of ds ≡ 0 → ⊥) → is_count ds ≡ true
-unfolding count_of
-a_count ds n = by_cases (is_count ds) (λ t. t) (λ f. absurd (n (rw f refl)))
-
-is_spelled : (ds : List ℕ) → is_count ds ≡ true → spelled 0 ds ≡ count_of ds
-unfolding count_of
-is_spelled ds t = rw t refl
-
--- a word's meaning, by the ways that the tests take
-abbrev nought : List ℕ → Bool
-nought w = eqb (length w) 1 && eqb (get_or w 0 0) 48
-
-zero_alone : (b : ℕ) (bs : List ℕ) → is_zero (b ∷ bs) ≡ nought (b ∷ bs)
-unfolding is_zero
-zero_alone b [] = by_cases (eqb b 48) (λ e. rw e refl) (λ e. rw e refl)
-zero_alone b (x ∷ xs) =
-    rw (eqb-suc-zero (length xs), ne_eqb (suc (suc (length xs))) 1 (λ e. omega arith))
-    (by_cases (eqb b 48) (λ e. rw e refl) (λ e. rw e refl))
-
-pub means_nothing : (w : List ℕ) → length w ≡ 0 → meaning_in (number w) ≡ Bad
-unfolding number meaning_in
-means_nothing [] h = refl
-means_nothing (b ∷ bs) h = absurd (omega arith)
-
-pub means_zero : (w : List ℕ) → (length w ≡ 0 → ⊥) → nought w ≡ true → meaning_in (number w) ≡ Plain 0
-unfolding number meaning_in is_zero spelled
-means_zero [] h e = absurd (h refl)
-means_zero (b ∷ []) h e = rw (eqb-true b 48 (and_right (eqb 1 1) (eqb b 48) e)) refl
-means_zero (b ∷ x ∷ xs) h e =
-    absurd (omega (arith, eqb-true (suc (suc (length xs))) 1 (and_left (eqb (suc (suc (length xs))) 1) (eqb b 48) e)))
-
-pub means_below : (w : List ℕ) (n : ℕ) → (length w ≡ 0 → ⊥) → get_or w 0 0 ≡ 45 → n ≡ count_of (drop 1 w) → (n ≡ 0 → ⊥) → meaning_in (number w) ≡ Below n
-unfolding number meaning_in
-means_below [] n h m e some = absurd (h refl)
-means_below (b ∷ bs) n h m e some =
-    let is : is_count bs ≡ true = a_count bs (λ z. some (e ∙ z)) in
-    rw (eq-eqb b 45 m, is, e) (ap Below (omega (arith, count_above bs is, is_spelled bs is)))
-
-pub means_none_below : (w : List ℕ) (n : ℕ) → (length w ≡ 0 → ⊥) → get_or w 0 0 ≡ 45 → n ≡ count_of (drop 1 w) → n ≡ 0 → meaning_in (number w) ≡ Bad
-unfolding number meaning_in
-means_none_below [] n h m e none = absurd (h refl)
-means_none_below (b ∷ bs) n h m e none = rw (eq-eqb b 45 m, no_count bs (sym e ∙ none)) refl
-
-pub means_plain : (w : List ℕ) (n : ℕ) → (length w ≡ 0 → ⊥) → (get_or w 0 0 ≡ 45 → ⊥) → n ≡ count_of (drop 0 w) → (n ≡ 0 → ⊥) → meaning_in (number w) ≡ Plain n
-unfolding number meaning_in
-means_plain [] n h m e some = absurd (h refl)
-means_plain (b ∷ bs) n h m e some =
-    let is : is_count (b ∷ bs) ≡ true = a_count (b ∷ bs) (λ z. some (e ∙ z)) in
-    rw (ne_eqb b 45 m, is, e)
-    (by_cases (is_zero (b ∷ bs)) (λ z. rw z (ap Plain (is_spelled (b ∷ bs) is))) (λ z. rw z (ap Plain (is_spelled (b ∷ bs) is))))
-
-pub means_none_plain :
-    (w : List ℕ) (n : ℕ) → (length w ≡ 0 → ⊥) → nought w ≡ false → (get_or w 0 0 ≡ 45 → ⊥) → n ≡ count_of (drop 0 w) → n ≡ 0
-    → meaning_in (number w) ≡ Bad
-unfolding number meaning_in
-means_none_plain [] n h z m e none = absurd (h refl)
-means_none_plain (b ∷ bs) n h z m e none =
-    rw (ne_eqb b 45 m, zero_alone b bs ∙ z, no_count (b ∷ bs) (sym e ∙ none)) refl
 
 -- nine digits spell less than a thousand million
 spelled_below : (ds : List ℕ) (m k : ℕ) → all_digits ds ≡ true → m < 10 ^ k → spelled m ds < 10 ^ (k + length ds)
@@ -219,15 +154,84 @@ unfolding Small number
 number_small [] = tt
 number_small (b ∷ bs) = by_cases (eqb b 45) (λ e. rw e (small_below bs)) (λ e. rw e (small_plain (b ∷ bs)))
 
--- by its meaning
-pub plain_small : (m : Word) (n : ℕ) → Small m → meaning_in m ≡ Plain n → n < 1000000000
-unfolding meaning_in Small NineDigits
-plain_small (good (pos k)) n s e = let same : k ≡ n = cc in omega (arith, s)
-plain_small (good (negsuc k)) n s e = absurd (let z : ◌≡◌ {A = ℕ} 0 1 = cc in omega arith)
-plain_small bad n s e = absurd (let z : ◌≡◌ {A = ℕ} 0 1 = cc in omega arith)
+-- what digits count, if anything, is above 0 and has nine digits
+counted : (ds : List ℕ) (n : ℕ) → Some n ≡ count_in ds → (is_count ds ≡ true) × (spelled 0 ds ≡ n)
+unfolding count_in
+counted ds n e = by_cases (is_count ds) (λ t. (t, let s : Some n ≡ Some (spelled 0 ds) = rw t at e in cc)) (λ f. absurd (no (rw f at e)))
+  where
+    no : Some n ≡ None → ⊥
+    no z = absurd (let o : ◌≡◌ {A = ℕ} 0 1 = cc in omega arith)
 
-pub below_small : (m : Word) (n : ℕ) → Small m → meaning_in m ≡ Below n → n < 1000000000
-unfolding meaning_in Small NineDigits
-below_small (good (pos k)) n s e = absurd (let z : ◌≡◌ {A = ℕ} 0 1 = cc in omega arith)
-below_small (good (negsuc k)) n s e = let same : suc k ≡ n = cc in omega (arith, s)
-below_small bad n s e = absurd (let z : ◌≡◌ {A = ℕ} 0 1 = cc in omega arith)
+uncounted : (ds : List ℕ) → None ≡ count_in ds → is_count ds ≡ false
+unfolding count_in
+uncounted ds e = by_cases (is_count ds) (λ t. absurd (no (rw t at e))) (λ f. f)
+  where
+    no : None ≡ Some (spelled 0 ds) → ⊥
+    no z = absurd (let o : ◌≡◌ {A = ℕ} 0 1 = cc in omega arith)
+
+module _ (ds : List ℕ) (n : ℕ) (e : Some n ≡ count_in ds) where
+  pub count_small : n < 1000000000
+  count_small = let is = counted ds n e in omega (arith, count_below ds is.0, is.1)
+
+  pub count_some : 1 ≤ n
+  count_some = let is = counted ds n e in omega (arith, count_above ds is.0, is.1)
+
+  pub count_fits : FitsSigned w32 (pos n)
+  count_fits = record { sfits = omega (arith, count_small) }
+
+  pub count_read : to_z w32 n ≡ pos n
+  count_read = to_z_pos w32 (omega (arith, count_small))
+
+  less : pos 0 -ℤ pos n ≡ negsuc (n - 1)
+  less = below n count_some
+    where
+      below : (m : ℕ) → 1 ≤ m → pos 0 -ℤ pos m ≡ negsuc (m - 1)
+      below zero h = absurd (not-suc-le-zero h)
+      below (suc k) h = rw (lt-ltb 0 (suc k) (omega arith)) (ap negsuc (omega arith))
+
+  pub minus_fits : FitsSigned w32 (pos 0 -ℤ to_z w32 n)
+  minus_fits = rw (count_read, less) (record { sfits = omega (arith, count_small) })
+
+  minus_read : to_z w32 (of_z w32 (pos 0 -ℤ to_z w32 n)) ≡ negsuc (n - 1)
+  minus_read = to_z-of_z minus_fits ∙ rw count_read less
+
+-- a word's number, by its first byte and what its digits count
+pub nothing_means : (w : List ℕ) → length w ≡ 0 → None ≡ number_in (number w)
+unfolding number number_in
+nothing_means [] h = refl
+nothing_means (b ∷ bs) h = absurd (omega arith)
+
+module _ (w : List ℕ) (b : ℕ) (bs : List ℕ) (e : w ≡ b ∷ bs) where
+  pub zero_means : eqb b 48 && eqb (length bs) 0 ≡ true → Some (pos 0) ≡ number_in (number w)
+  unfolding number number_in is_zero spelled
+  zero_means z = rw e (alone bs (and_right (eqb b 48) (eqb (length bs) 0) z))
+    where
+      is : b ≡ 48
+      is = eqb-true b 48 (and_left (eqb b 48) (eqb (length bs) 0) z)
+
+      alone : (ds : List ℕ) → eqb (length ds) 0 ≡ true → Some (pos 0) ≡ number_in (number (b ∷ ds))
+      alone [] t = rw is refl
+      alone (d ∷ ds) t = absurd (omega (arith, eqb-true (suc (length ds)) 0 t))
+
+  module _ (m : b ≡ 45) where
+    pub minus_means : (n : ℕ) (k : Some n ≡ count_in bs) → Some (to_z w32 (of_z w32 (pos 0 -ℤ to_z w32 n))) ≡ number_in (number w)
+    unfolding number number_in
+    minus_means n k =
+        let is = counted bs n k in
+        rw (e, minus_read bs n k, eq-eqb b 45 m, is.0, is.1) refl
+
+    pub minus_means_none : None ≡ count_in bs → None ≡ number_in (number w)
+    unfolding number number_in
+    minus_means_none k = rw (e, eq-eqb b 45 m, uncounted bs k) refl
+
+  module _ (m : b ≡ 45 → ⊥) where
+    pub plain_means : (n : ℕ) → Some n ≡ count_in w → Some (to_z w32 n) ≡ number_in (number w)
+    unfolding number number_in
+    plain_means n k =
+        let is = counted (b ∷ bs) n (rw e at k) in
+        rw (count_read w n k, e, ne_eqb b 45 m, is.0)
+        (by_cases (is_zero (b ∷ bs)) (λ z. rw (z, is.1) refl) (λ z. rw (z, is.1) refl))
+
+    pub plain_means_none : is_zero (b ∷ bs) ≡ false → None ≡ count_in w → None ≡ number_in (number w)
+    unfolding number number_in
+    plain_means_none z k = rw (e, ne_eqb b 45 m, z, uncounted (b ∷ bs) (rw e at k)) refl

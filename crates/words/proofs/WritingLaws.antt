@@ -37,19 +37,12 @@ put_then {at} {m} {r} {xs} {ys} {l} {l₁} {l₂} h w v =
 pub put_as : {at r : ℕ} {xs l l' : List ℕ} (ys : List ℕ) → Put at xs l l' r → xs ≡ ys → Put at ys l l' r
 put_as {at} {r} {xs} {l} {l'} ys w e = rw (← e) w
 
--- nothing, and one byte: in the buffer, past its end, and at the farthest place
-module _ (at : ℕ) (l : List ℕ) where
-  pub put_none : at ≤ farthest → Put at [] l l at
-  put_none h = record { buffer = refl; end = omega arith }
+-- nothing, and a byte that finds no place
+pub put_none : (at : ℕ) (l : List ℕ) → at ≤ farthest → Put at [] l l at
+put_none at l h = record { buffer = refl; end = omega arith }
 
-  pub put_inside : (x : ℕ) → at < length l → length l ≤ farthest → Put at (x ∷ []) l (set l at x) (at + 1)
-  put_inside x h room = record { buffer = refl; end = omega arith }
-
-  pub put_past : (x : ℕ) → length l ≤ at → at < farthest → Put at (x ∷ []) l l (at + 1)
-  put_past x h near = record { buffer = sym (set_out l at x h); end = omega arith }
-
-  pub put_farthest : (x : ℕ) → length l ≤ at → at ≡ farthest → Put at (x ∷ []) l l at
-  put_farthest x h far = record { buffer = sym (set_out l at x h); end = omega arith }
+pub none_stored : (x at : ℕ) (l : List ℕ) → length l ≤ at → sets l at (x ∷ []) ≡ l
+none_stored x at l h = set_out l at x h
 
 -- bytes one by one
 pub put_next :

@@ -1,7 +1,5 @@
 -- The number that a word means: 45 is a minus, 48 to 57 are the digits.
-use Rattle.std.specs.Prelude.{Bool, true, false, cond, ◌&&◌, ◌||◌, List, [], ◌∷◌, ℕ, suc, ◌+◌, ◌*◌, ◌-◌, eqb, leb, ℤ, pos, negsuc, length}
-use Rattle.words.specs.declared.numbers.Meaning.{Meaning}
-use Rattle.words.specs.declared.numbers.Meaning.TheVariants.{Plain, Below, Bad}
+use Rattle.std.specs.Prelude.{Bool, true, false, cond, ◌&&◌, ◌||◌, List, [], ◌∷◌, ℕ, suc, ◌+◌, ◌*◌, ◌-◌, eqb, leb, ℤ, pos, negsuc, length, Option, Some, None}
 
 unfoldable pub is_digit : ℕ → Bool
 is_digit b = leb 48 b && leb b 57
@@ -41,16 +39,15 @@ number (b ∷ bs) =
     (cond (is_count bs) (good (negsuc (spelled 0 bs - 1))) bad)
     (cond (is_zero (b ∷ bs) || is_count (b ∷ bs)) (good (pos (spelled 0 (b ∷ bs)))) bad)
 
--- a meaning as the code gives it: a number, or how far below zero it is
-unfoldable pub meaning_in : Word → Meaning
-meaning_in (good (pos n)) = Plain n
-meaning_in (good (negsuc m)) = Below (suc m)
-meaning_in bad = Bad
+-- a meaning as the code gives it
+unfoldable pub number_in : Word → Option ℤ
+number_in (good z) = Some z
+number_in bad = None
 
--- what digits spell after some that spell `so_far`; 0 where one of them is no digit
-unfoldable pub spelled_by : ℕ → List ℕ → ℕ
-spelled_by so_far l = cond (all_digits l) (spelled so_far l) 0
+-- what digits spell after some that spell `so_far`; none where one of them is no digit
+unfoldable pub spelled_in : ℕ → List ℕ → Option ℕ
+spelled_in so_far l = cond (all_digits l) (Some (spelled so_far l)) None
 
--- the number of 1 to 9 digits; 0, which none of them spells, where a list is no such number
-unfoldable pub count_of : List ℕ → ℕ
-count_of l = cond (is_count l) (spelled 0 l) 0
+-- the number of 1 to 9 digits; none where a list is no such number
+unfoldable pub count_in : List ℕ → Option ℕ
+count_in l = cond (is_count l) (Some (spelled 0 l)) None

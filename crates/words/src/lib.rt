@@ -9,7 +9,7 @@ mod putting;
 mod spans;
 
 pub use inches::{Inches, put_inches};
-pub use numbers::{Meaning, is_digit, number};
+pub use numbers::{is_digit, number};
 pub use page::Page;
 pub use putting::{put_below, put_byte, put_bytes, put_item, put_number};
 pub use spans::{Span, line_end, next_word};

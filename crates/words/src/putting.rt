@@ -3,8 +3,6 @@ ghost use Rattle.std.specs.Prelude.{[], ◌∷◌, ◌++◌, ◌≡◌, ◌+◌,
 ghost use Rattle.words.specs.Digits.{digits};
 ghost use Rattle.words.specs.Writing.{Put};
 
-const FARTHEST: usize = 18446744073709551615;
-
 fn digit(x: u64) -> u8
     requires { x ≤ 9 }
     ensures { result ≡ 48 + x }
@@ -17,22 +15,16 @@ pub fn put_byte(buffer: &mut [u8], at: usize, byte: u8) -> usize
 {
     if at < buffer.len() {
         buffer[at] = byte;
-        return at + 1;
     }
-    if at < FARTHEST {
-        return at + 1;
-    }
-    at
+    at.saturating_add(1)
 }
 
 pub fn put_bytes(buffer: &mut [u8], at: usize, bytes: &[u8]) -> usize
     ensures { Put at bytes.now buffer.old buffer.new result }
 {
     let mut next = at;
-    let mut i = 0;
-    while i < bytes.len() {
-        next = put_byte(buffer, next, bytes[i]);
-        i += 1;
+    for &byte in bytes {
+        next = put_byte(buffer, next, byte);
     }
     next
 }

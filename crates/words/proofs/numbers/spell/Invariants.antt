@@ -1,11 +1,6 @@
-use mathlib.Core.Path.{◌≡◌}
-use Prim.Native.Nat.{◌-◌, ◌≤◌, ◌<◌, ◌^◌}
-use lib.ListN.{length, drop}
-use Rattle.words.specs.Numbers.{spelled_by}
+use Rattle.std.proofs.Common.{◌≡◌, ◌<◌, ◌^◌, drop}
+use Rattle.words.specs.Numbers.{spelled_in}
 use Rattle.words.proofs.numbers.spell.Given as goal
 
-abbrev pub invariant-loop-i : goal.invariant-loop-i
-invariant-loop-i l = (l.from ≤ l.i) × (l.n < 10 ^ (l.i - l.from)) × (spelled_by 0 (drop l.from l.word) ≡ spelled_by l.n (drop l.i l.word))
-
-abbrev pub decreases-loop-i : goal.decreases-loop-i
-decreases-loop-i l = length l.word - l.i
+abbrev pub invariant-loop-b : goal.invariant-loop-b
+invariant-loop-b l = (l.n < 10 ^ l.b-index) × (spelled_in 0 l.word ≡ spelled_in l.n (drop l.b-index l.word))

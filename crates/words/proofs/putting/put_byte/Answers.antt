@@ -1,13 +1,15 @@
--- `putting::put_byte` meets its contract: in the buffer, past its end, and at the farthest place.
-use native.Mathlib.Omega.{arith}
-use Rattle.words.proofs.WritingLaws.{put_inside, put_past, put_farthest}
+-- `putting::put_byte` meets its contract: in the buffer, and past its end, where nothing is stored.
+use Rattle.std.proofs.Common.{◌∙◌, sym}
+use Rattle.words.proofs.WritingLaws.{none_stored}
 use Rattle.words.proofs.putting.put_byte.Goals as goal
-
-pub returns-then-at-buffer : goal.returns-then-at-buffer
-returns-then-at-buffer c = put_inside _ c.args.buffer.now _ c.if-at-buffer.true (omega arith)
-
-pub returns-then-at-lt-FARTHEST : goal.returns-then-at-lt-FARTHEST
-returns-then-at-lt-FARTHEST c = put_past _ c.args.buffer.now _ c.if-at-buffer.false c.if-at-lt-FARTHEST.true
+use Rattle.words.proofs.putting.put_byte.Goals.{then-at-buffer, else-at-buffer}
 
 pub returns : goal.returns
-returns c = put_farthest _ c.args.buffer.now _ c.if-at-buffer.false (omega arith)
+returns c =
+    record {
+      buffer = elim c.if-at-buffer.branch [
+        | then-at-buffer w ↦ w.buffer-is
+        | else-at-buffer w ↦ w.buffer-is ∙ sym (none_stored _ _ _ w.if-at-buffer.false)
+      ];
+      end = c.saturating_add.ensures;
+    }
