@@ -1,5 +1,5 @@
 -- The number that a word means: 45 is a minus, 48 to 57 are the digits.
-use Rattle.std.specs.Prelude.{Bool, true, false, cond, ◌&&◌, ◌||◌, List, [], ◌∷◌, ℕ, suc, ◌+◌, ◌*◌, ◌-◌, eqb, leb, ℤ, pos, negsuc, length, Option, Some, None}
+use Rattle.std.specs.Prelude.{Bool, true, false, cond, ◌&&◌, ◌||◌, List, [], ◌∷◌, ℕ, ◌+◌, ◌*◌, ◌-◌, eqb, leb, ℤ, pos, negsuc, length, Option, Some, None}
 
 unfoldable pub is_digit : ℕ → Bool
 is_digit b = leb 48 b && leb b 57

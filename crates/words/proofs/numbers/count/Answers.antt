@@ -1,6 +1,5 @@
 -- `numbers::count` meets its contract: each test shuts out a word that is no number, and the last leaves 1 to 9 bytes, of which the first is no zero.
-use Rattle.std.proofs.Common.{◌∙◌, rules, arith}
-use Rattle.words.specs.Numbers.{count_in}
+use Rattle.std.proofs.Common.{◌∙◌, arith}
 use Rattle.words.proofs.NumberLaws.{count_nothing, count_nought, count_long, count_spelled}
 use Rattle.words.proofs.numbers.count.Goals as goal
 

@@ -1,6 +1,6 @@
 -- `putting::put_bytes` meets its contract: as many bytes are put as the loop has passed.
 use Rattle.std.proofs.Common.{arith}
-use Rattle.words.proofs.WritingLaws.{put_length, put_none, put_next, put_all}
+use Rattle.words.proofs.WritingLaws.{put_none, put_next, put_all}
 use Rattle.words.proofs.putting.put_bytes.Goals as goal
 
 pub loop-byte-init : goal.loop-byte-init

@@ -1,5 +1,5 @@
 -- `spans::is_blank` meets its contract.
-use mathlib.Core.Path.{refl}
+use Rattle.std.proofs.Common.{refl}
 use Rattle.words.specs.Words.{is_blank}
 use Rattle.words.proofs.spans.is_blank.Goals as goal
 
