@@ -16,7 +16,7 @@ use Rattle.paper.specs.Day.{check_of}
 use Rattle.paper.proofs.RefusalLaws.{pass_single, fail_single, accepted_then, refused_then}
 use Rattle.records.specs.Verdicts.{verdict_in}
 use Rattle.records.specs.declared.verdicts.Verdict as code
-use Rattle.records.specs.declared.verdicts.Verdict.TheVariants.{Accepted}
+use Rattle.std.specs.Prelude.{Ok}
 use Rattle.weather.specs.Today.{weather_of}
 use Rattle.weather.proofs.TodayLaws.{day_known, today_fits}
 use Rattle.covers.specs.Plots.{plots_of}
@@ -33,7 +33,7 @@ clash : (why : Refusal) → accepted ≡ refused why → ⊥
 clash why e = let z : ◌≡◌ {A = ℕ} 0 1 = cc in omega arith
 
 -- a refusal of the first tests stands, whatever comes after them
-pub stands : (us vs : List Test) (v : code.Verdict) → v ≡ verdict_in (verdict us) → (v ≡ Accepted → ⊥) → v ≡ verdict_in (verdict (us ++ vs))
+pub stands : (us vs : List Test) (v : code.Verdict) → v ≡ verdict_in (verdict us) → (v ≡ (Ok tt) → ⊥) → v ≡ verdict_in (verdict (us ++ vs))
 stands us vs v e not = go (verdict us) refl
   where
     go : (u : Verdict) → verdict us ≡ u → v ≡ verdict_in (verdict (us ++ vs))

@@ -11,7 +11,7 @@ ghost use Rattle.stores.specs.States.{lent_tests};
 ghost use Rattle.admission.specs.Tests.{day_lengths, later_tests};
 
 use covers::{PLOT_ROOM, lay_plots};
-use records::{DayRecord, Grid, MOST_CELLS, Past, Refusal, Verdict, results_each, stores_each};
+use records::{DayRecord, Grid, MOST_CELLS, Past, Refusal, one_each};
 use stores::{snow_verdict, state_verdict};
 use weather::Today;
 
@@ -26,27 +26,26 @@ pub struct Lengths {
 }
 
 // Tests 1 and 2 of the stores and the results: the survey tests the setup's own slices.
-pub fn lent_verdict(grid: Grid, soil: usize, snow: usize, results: Lengths) -> Verdict
+pub fn lent_verdict(grid: Grid, soil: usize, snow: usize, results: Lengths) -> Result<(), Refusal>
     ensures { result ≡ verdict_in (verdict (lent_tests (grid_as grid) (day_lengths soil snow results))) }
 {
     if !grid.fits() {
-        return Verdict::Refused(Refusal::Grid);
+        return Err(Refusal::Grid);
     }
     let n = grid.cells();
-    if !stores_each(n, soil, snow) {
-        return Verdict::Refused(Refusal::Lent);
-    }
-    if !results_each(
-        n,
+    let lengths = [
+        soil,
+        snow,
         results.intercepted,
         results.outflow,
         results.evapotranspired,
         results.recharged,
         results.rejected,
-    ) {
-        return Verdict::Refused(Refusal::Lent);
+    ];
+    if !one_each(n, &lengths) {
+        return Err(Refusal::Lent);
     }
-    Verdict::Accepted
+    Ok(())
 }
 
 // Tests 7 to 10, the cells found by their slots. What the cells of each slot share is laid out first, since test 10 reads the snowfall there.
@@ -61,22 +60,18 @@ pub fn day_verdict(
     past: Past,
     day: DayRecord,
     plots: &mut [u32; PLOT_ROOM],
-) -> Verdict
+) -> Result<(), Refusal>
     ensures { (plots.new ≡ plots_of (today_as today) covers.now plots.old)
         × (result ≡ verdict_in (verdict (later_tests (grid_as grid) covers.now slots.now available.now soil.now snow.now
         (past_as past) (day_as day) plots.new))) }
 {
     lay_plots(today, covers, plots);
-    let last = past.last;
     if !day.fits() {
-        return Verdict::Refused(Refusal::DayRecord);
+        return Err(Refusal::DayRecord);
     }
-    if !last.is_followed_by(day.serial) {
-        return Verdict::Refused(Refusal::SerialGap);
+    if !past.is_followed_by(day.serial) {
+        return Err(Refusal::SerialGap);
     }
-    let state = state_verdict(grid, covers, slots, available, soil, snow, past);
-    let Verdict::Accepted = state else {
-        return state;
-    };
+    state_verdict(grid, covers, slots, available, soil, snow, past)?;
     snow_verdict(plots, slots, snow)
 }

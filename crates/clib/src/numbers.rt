@@ -5,7 +5,7 @@ ghost use Rattle.records.specs.Verdicts.{verdict_as};
 ghost use Rattle.clib.specs.Narrow.{narrow};
 ghost use Rattle.clib.specs.Numbers.{numbered as both, returned};
 
-use records::{Depth, FrostIndex, Verdict, wide};
+use records::{Depth, FrostIndex, Refusal, wide};
 
 const NUMBER: u64 = 4294967296;
 
@@ -30,7 +30,7 @@ pub(crate) fn numbered(number: u32, place: usize) -> u64
 }
 
 // 0 where it accepts.
-pub(crate) fn returned_as(verdict: Verdict) -> u64
+pub(crate) fn returned_as(verdict: Result<(), Refusal>) -> u64
     requires { verdict_place (verdict_as verdict) < narrow }
     ensures { result ≡ returned (verdict_as verdict) }
 {

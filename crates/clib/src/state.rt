@@ -6,7 +6,7 @@ ghost use Rattle.clib.specs.Numbers.{memory_from, memory_list, last_from, last_n
 ghost use Rattle.clib.specs.Narrow.{NarrowMemory, Narrow};
 
 use crate::numbers::{depth, index};
-use records::{Last, Memory, Past, Totals};
+use records::{Memory, Past, Totals};
 
 // The last serial of a state that has seen no day.
 const NO_SERIAL: u32 = 4294967295;
@@ -23,13 +23,13 @@ fn memory_from(memory: &[u32; 5]) -> Memory
     }
 }
 
-fn last_from(serial: u32) -> Last
+fn last_from(serial: u32) -> Option<u32>
     ensures { last_as result ≡ last_from serial }
 {
     if serial == NO_SERIAL {
-        return Last::Never;
+        return None;
     }
-    Last::Serial(serial)
+    Some(serial)
 }
 
 pub(crate) fn past_from(memory: &[u32; 5], last_serial: u32, frost_index: u32) -> Past
@@ -71,8 +71,8 @@ pub(crate) fn serial_kept(kept: Past) -> u32
 {
     let last = kept.last;
     match last {
-        Last::Never => NO_SERIAL,
-        Last::Serial(serial) => serial,
+        None => NO_SERIAL,
+        Some(serial) => serial,
     }
 }
 

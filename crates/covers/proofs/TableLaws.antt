@@ -18,7 +18,7 @@ use Rattle.paper.specs.Covers.{code_of, entries, size_fits, entry_fits, rises}
 use Rattle.paper.specs.Refusals.{Refusal, accepted, refused, verdict, cover_places, cover_fits, cover_table, cover_test}
 use Rattle.paper.proofs.RefusalLaws.{pass_many, fail_many}
 use Rattle.records.specs.Verdicts.{refusal_in, verdict_in}
-use Rattle.records.specs.declared.verdicts.Verdict.TheVariants.{Accepted, Refused}
+use Rattle.std.specs.Prelude.{Ok, Err}
 use Rattle.covers.specs.Table.{one_more, EntriesFit, found, index_of, CoversRead}
 
 pub rises_first : (covers : List ℕ) (e : ℕ) → e ≡ 0 → true ≡ rises covers e
@@ -71,7 +71,7 @@ module _ (covers : List ℕ) where
 
   -- refused, the array is as it was lent; accepted, it has the index
   pub refused_table : (before : List ℕ) (why : Refusal) → verdict (cover_test covers ∷ []) ≡ refused why
-      → CoversRead covers before (Refused (refusal_in why)) before
+      → CoversRead covers before (Err (refusal_in why)) before
   refused_table before why v =
       record {
         verdict_is = sym (ap verdict_in v);
@@ -80,7 +80,7 @@ module _ (covers : List ℕ) where
       }
 
   pub read_table : (before index : List ℕ) → verdict (cover_test covers ∷ []) ≡ accepted → index ≡ index_of covers (entries covers)
-      → CoversRead covers before Accepted index
+      → CoversRead covers before (Ok tt) index
   read_table before index v is =
       record {
         verdict_is = sym (ap verdict_in v);

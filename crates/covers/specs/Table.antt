@@ -5,7 +5,7 @@ use Rattle.theory.specs.Lowest.{Found, at, nowhere, lowest}
 use Rattle.paper.specs.Covers.{code_of, entries, size_fits, entry_fits}
 use Rattle.paper.specs.Refusals.{Refusal, accepted, refused, verdict, cover_test}
 use Rattle.records.specs.Verdicts.{verdict_in}
-use Rattle.records.specs.declared.verdicts.Verdict.{Verdict}
+use Rattle.records.specs.Verdicts.{Verdict}
 
 -- one more than the entry, 0 for none
 unfoldable pub one_more : Found → ℕ

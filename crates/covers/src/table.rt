@@ -5,7 +5,7 @@ ghost use Rattle.paper.specs.Covers.{code_of, entries, number_of, size_fits, ris
 ghost use Rattle.records.specs.Places.{place_in};
 ghost use Rattle.covers.specs.Table.{EntriesFit, index_of, CoversRead};
 
-use records::{CurveNumber, Depth, Place, Refusal, Verdict, index_of, wide};
+use records::{CurveNumber, Depth, Refusal, index_of, wide};
 
 // Numbers an entry.
 pub const ENTRY_NUMBERS: usize = 16;
@@ -105,18 +105,15 @@ fn entry_fits(covers: &[u32], e: usize) -> bool
 }
 
 // The lowest entry with a fault.
-fn bad_entry(covers: &[u32]) -> Place
+fn bad_entry(covers: &[u32]) -> Option<usize>
     ensures { result ≡ place_in (lowest (entries covers.now) (λ e. not (entry_fits covers.now e))) }
 {
-    let count = covers.len() / ENTRY_NUMBERS;
-    let mut e = 0;
-    while e < count {
+    for e in 0..covers.len() / ENTRY_NUMBERS {
         if !entry_fits(covers, e) {
-            return Place::At(e);
+            return Some(e);
         }
-        e += 1;
     }
-    Place::Nowhere
+    None
 }
 
 // Fills the index by code: one more than the entry.
@@ -124,27 +121,24 @@ fn index_codes(covers: &[u32], index: &mut [u8; CODES])
     requires { EntriesFit covers.now × (index.old ≡ replicate 256 0) }
     ensures { index.new ≡ index_of covers.now (entries covers.now) }
 {
-    let count = covers.len() / ENTRY_NUMBERS;
-    let mut e = 0;
-    while e < count {
+    for e in 0..covers.len() / ENTRY_NUMBERS {
         let code = index_of(covers[ENTRY_NUMBERS * e]);
         index[code] = (e + 1) as u8;
-        e += 1;
     }
 }
 
 // Test 3, and where it passes the index: for each code one more than its entry, 0 for a code without one. A refused table leaves the array as lent.
-pub fn read_covers(covers: &[u32], index: &mut [u8; CODES]) -> Verdict
+pub fn read_covers(covers: &[u32], index: &mut [u8; CODES]) -> Result<(), Refusal>
     ensures { CoversRead covers.now index.old result index.new }
 {
     if !size_fits(covers) {
-        return Verdict::Refused(Refusal::CoverTable(0));
+        return Err(Refusal::CoverTable(0));
     }
     let entry = bad_entry(covers);
-    if let Place::At(e) = entry {
-        return Verdict::Refused(Refusal::CoverTable(e));
+    if let Some(e) = entry {
+        return Err(Refusal::CoverTable(e));
     }
     *index = [0u8; CODES];
     index_codes(covers, index);
-    Verdict::Accepted
+    Ok(())
 }

@@ -8,12 +8,12 @@ ghost use Rattle.clib.specs.Numbers.{returned};
 ghost use Rattle.cperiod.specs.Period.{PeriodGiven};
 
 use clib::{Site, climate_of, grid_of};
-use records::{Verdict, wide};
+use records::{Refusal, wide};
 
 const NUMBER: u64 = 4294967296;
 
 // As every call for C returns it: 0 where it accepts, else the refusal's number × 2^32 + its place.
-fn returned_as(verdict: Verdict) -> u64
+fn returned_as(verdict: Result<(), Refusal>) -> u64
     requires { verdict_place (verdict_as verdict) < narrow }
     ensures { result ≡ returned (verdict_as verdict) }
 {

@@ -4,7 +4,7 @@ ghost use Rattle.records.specs.Answers.{totals_as};
 ghost use Rattle.lines.specs.Telling.{Tells};
 
 use crate::writing::{line, refusal};
-use records::{Answer, Verdict};
+use records::{Answer};
 
 // The place after what a day printed, and whether the run goes on.
 #[derive(Clone, Copy)]
@@ -19,7 +19,7 @@ pub fn tell(output: &mut [u8], at: usize, serial: u32, answer: Answer) -> Told
     let verdict = answer.verdict;
     let totals = answer.totals;
     match verdict {
-        Verdict::Accepted => Told::More(line(output, at, serial, totals)),
-        Verdict::Refused(why) => Told::Last(refusal(output, at, why)),
+        Ok(()) => Told::More(line(output, at, serial, totals)),
+        Err(why) => Told::Last(refusal(output, at, why)),
     }
 }

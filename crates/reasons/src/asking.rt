@@ -12,23 +12,24 @@ ghost use Rattle.reasons.specs.Asked.{asked_of, Copied};
 use crate::grounds::ground_at;
 use crate::reading::{facts_of, first_true, left_at};
 use crate::whys::Why;
-use records::{Climate, DayRecord, Grid, MOST_CELLS, Past, Refusal, Verdict, stores_each};
+use records::{Climate, DayRecord, Grid, MOST_CELLS, Past, Refusal, one_each};
 
 // Test 4, of the cells' own numbers.
 const CELL_TEST: u32 = 4;
 
 // The cell asked about is tested among the cells of test 4: after those of the grid, and before the tests that come later.
-pub fn asked(verdict: Verdict, grid: Grid, cell: usize) -> Verdict
+pub fn asked(verdict: Result<(), Refusal>, grid: Grid, cell: usize) -> Result<(), Refusal>
     ensures { verdict_as result ≡ asked_of (cells_of (grid_as grid)) cell (verdict_as verdict) }
 {
     if cell < grid.cells() {
         return verdict;
     }
-    let number = verdict.number();
-    if (1 <= number) & (number <= CELL_TEST) {
-        return verdict;
+    if let Err(why) = verdict {
+        if why.number() <= CELL_TEST {
+            return verdict;
+        }
     }
-    Verdict::Refused(Refusal::CellNumbers(cell))
+    Err(Refusal::CellNumbers(cell))
 }
 
 // A store at the front of an array, for the day to change in place of the lent one.
@@ -68,7 +69,7 @@ pub fn why(
         return Why::Refused(Refusal::Grid);
     }
     let n = grid.cells();
-    if !stores_each(n, soil.len(), snow.len()) {
+    if !one_each(n, &[soil.len(), snow.len()]) {
         return Why::Refused(Refusal::Lent);
     }
     let mut held = copied(soil);
@@ -97,7 +98,7 @@ pub fn why(
         day,
     );
     let verdict = answer.verdict;
-    if let Verdict::Refused(refusal) = asked(verdict, grid, cell) {
+    if let Err(refusal) = asked(verdict, grid, cell) {
         return Why::Refused(refusal);
     }
     let left = left_at(

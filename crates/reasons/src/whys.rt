@@ -3,7 +3,7 @@ ghost use Rattle.std.specs.Prelude.{◌≡◌, ◌≤◌};
 ghost use Rattle.records.specs.Verdicts.{verdict_as};
 ghost use Rattle.reasons.specs.Whys.{why_as, why_number, first_depth, second_depth, why_verdict};
 
-use records::{Depth, Refusal, Verdict};
+use records::{Depth, Refusal};
 
 #[derive(Clone, Copy)]
 pub enum Why {
@@ -75,18 +75,18 @@ impl Why {
 
     // Whether there is a reason: the verdict on the day and the cell.
     #[tactic(auto, unfolding(crate::specs::Whys::why_verdict))]
-    pub fn verdict(self) -> Verdict
+    pub fn verdict(self) -> Result<(), Refusal>
         ensures { verdict_as result ≡ why_verdict (why_as self) }
     {
         match self {
-            Why::OpenWater(_, _) => Verdict::Accepted,
-            Why::UnderSnow(_, _) => Verdict::Accepted,
-            Why::NoWater(_, _) => Verdict::Accepted,
-            Why::BelowPotential(_, _) => Verdict::Accepted,
-            Why::RoomForAll(_, _) => Verdict::Accepted,
-            Why::AboveLargest(_, _) => Verdict::Accepted,
-            Why::AllRecharged(_, _) => Verdict::Accepted,
-            Why::Refused(refusal) => Verdict::Refused(refusal),
+            Why::OpenWater(_, _) => Ok(()),
+            Why::UnderSnow(_, _) => Ok(()),
+            Why::NoWater(_, _) => Ok(()),
+            Why::BelowPotential(_, _) => Ok(()),
+            Why::RoomForAll(_, _) => Ok(()),
+            Why::AboveLargest(_, _) => Ok(()),
+            Why::AllRecharged(_, _) => Ok(()),
+            Why::Refused(refusal) => Err(refusal),
         }
     }
 }

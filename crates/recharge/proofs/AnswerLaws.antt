@@ -28,7 +28,7 @@ use Rattle.paper.proofs.SnowLaws.{melt_most}
 use Rattle.survey.specs.Charts.{slot_of, next_as, Mapped}
 use Rattle.records.specs.Verdicts.{verdict_as, verdict_in}
 use Rattle.records.specs.declared.verdicts.Verdict as code
-use Rattle.records.specs.declared.verdicts.Verdict.TheVariants.{Accepted}
+use Rattle.std.specs.Prelude.{Ok}
 use Rattle.records.specs.declared.answers.Totals.{Totals}
 use Rattle.records.proofs.VerdictLaws.{verdict_back}
 use Rattle.weather.proofs.TodayLaws.{DayKnown, day_known}
@@ -240,7 +240,7 @@ module _ (s : Setup) (st : State) (r : paper.Results) (d : Day) (before ways₀ 
   today_gross = ap (λ (x : Today). x.gross) is_today
 
   -- the whole answer of an accepted day
-  pub accepted_answer : paper.verdict_of s st r d ≡ accepted → (o : code.Verdict) → o ≡ Accepted → (past : Past)
+  pub accepted_answer : paper.verdict_of s st r d ≡ accepted → (o : code.Verdict) → o ≡ (Ok tt) → (past : Past)
       → past ≡ past_after st.past d → (told totals : Totals) → told ≡ totals → (after : pass.Slices)
       → pass.Ran t plots slots ways s.available st.soil st.snow totals after
       → record {
@@ -279,7 +279,7 @@ module _ (s : Setup) (st : State) (r : paper.Results) (d : Day) (before ways₀ 
 
 -- a refused day hands back what it was given
 pub refused_answer : (s : Setup) (st : State) (r : paper.Results) (d : Day) (o given_o : code.Verdict) (totals : paper.Totals) (state : State)
-    → o ≡ given_o → totals ≡ paper.no_totals → state ≡ st → given_o ≡ verdict_in (paper.verdict_of s st r d) → (given_o ≡ Accepted → ⊥)
+    → o ≡ given_o → totals ≡ paper.no_totals → state ≡ st → given_o ≡ verdict_in (paper.verdict_of s st r d) → (given_o ≡ (Ok tt) → ⊥)
     → record { verdict = verdict_as o; results = r; totals = totals; state = state } ≡ paper.day_of s st r d
 refused_answer s st r d o given_o totals state same none kept e not = go (paper.verdict_of s st r d) refl
   where

@@ -18,7 +18,7 @@ use Rattle.paper.proofs.SetupLaws.{sound}
 use Rattle.records.specs.Past.{past_as}
 use Rattle.records.specs.Verdicts.{refusal_as, verdict_as}
 use Rattle.records.specs.declared.verdicts.Verdict as code
-use Rattle.records.specs.declared.verdicts.Verdict.TheVariants.{Accepted, Refused}
+use Rattle.std.specs.Prelude.{Ok, Err}
 use Rattle.survey.proofs.CallLaws.{each_both, more_fit}
 use Rattle.recharge.specs.Period.{lists_fit, opening, Went, Periods}
 use Rattle.recharge.specs.declared.periods.Ended.{Ended}
@@ -122,6 +122,6 @@ opened s ns soil₀ snow₀ sums₀ totals₀ v r soil snow sums totals went =
     record { unbegun = λ why e. absurd (clash why (sym v ∙ e)); went = λ e. went }
 
 -- a verdict that is not accepted is a refusal
-pub refusal_of : (v : code.Verdict) → (v ≡ Accepted → ⊥) → (w : Refusal) × (verdict_as v ≡ refused w)
-refusal_of Accepted not = absurd (not refl)
-refusal_of (Refused why) not = (refusal_as why, refl)
+pub refusal_of : (v : code.Verdict) → (v ≡ (Ok tt) → ⊥) → (w : Refusal) × (verdict_as v ≡ refused w)
+refusal_of (Ok tt) not = absurd (not refl)
+refusal_of (Err why) not = (refusal_as why, refl)

@@ -27,7 +27,7 @@ use Rattle.paper.proofs.PeriodLaws.{state_next, results_next, few_days}
 use Rattle.records.specs.Past.{state_as}
 use Rattle.records.specs.Verdicts.{refusal_as, verdict_as}
 use Rattle.records.specs.declared.verdicts.Verdict as code
-use Rattle.records.specs.declared.verdicts.Verdict.TheVariants.{Accepted, Refused}
+use Rattle.std.specs.Prelude.{Ok, Err}
 use Rattle.records.specs.declared.past.Past.{Past}
 use Rattle.records.proofs.FrontLaws.{parts, Room, no_results_lem, room}
 use Rattle.daybook.specs.Days.{day_in}
@@ -134,7 +134,7 @@ module _ (s : Setup) (ns : List ℤ) (totals₀ : List ℕ) (st : State) (sums t
 
   -- after the last day
   pub all_ended : length ns / 7 ≤ k → (soil snow : List ℕ) (past : Past) → state_as soil snow past ≡ st
-      → Went s ns totals₀ (record { verdict = Accepted; days = length ns / 7; past = past }) soil snow sums totals
+      → Went s ns totals₀ (record { verdict = (Ok tt); days = length ns / 7; past = past }) soil snow sums totals
   unfolding verdict_at
   all_ended last soil snow past kept =
       let all : length ns / 7 ≡ k = omega (arith, u.within) in
@@ -159,12 +159,12 @@ module _ (s : Setup) (ns : List ℤ) (totals₀ : List ℕ) (st : State) (sums t
         ap (λ (x : Outcome). x.state)
         (is ∙ refused_is s _ _ _ why (sym (verdict_is s _ _ _) ∙ sym verdict_same ∙ v))
 
-    refused_by : (v : code.Verdict) → out.verdict ≡ verdict_as v → (v ≡ Accepted → ⊥) → out.state ≡ (after s (fresh_run s) (day_in ns) k).state
-    refused_by Accepted e not = absurd (not refl)
-    refused_by (Refused why) e not = refused_state (refusal_as why) e
+    refused_by : (v : code.Verdict) → out.verdict ≡ verdict_as v → (v ≡ (Ok tt) → ⊥) → out.state ≡ (after s (fresh_run s) (day_in ns) k).state
+    refused_by (Ok tt) e not = absurd (not refl)
+    refused_by (Err why) e not = refused_state (refusal_as why) e
 
     -- and ends the period
-    pub refused_ends : (v : code.Verdict) → out.verdict ≡ verdict_as v → (v ≡ Accepted → ⊥) → k < length ns / 7
+    pub refused_ends : (v : code.Verdict) → out.verdict ≡ verdict_as v → (v ≡ (Ok tt) → ⊥) → k < length ns / 7
         → (soil snow : List ℕ) (past : Past) → state_as soil snow past ≡ out.state
         → Went s ns totals₀ (record { verdict = v; days = k; past = past }) soil snow sums totals
     unfolding verdict_at

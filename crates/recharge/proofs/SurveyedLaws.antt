@@ -12,7 +12,7 @@ use Rattle.paper.specs.Day.{Results, Totals, no_totals, check_of, verdict_of, le
 use Rattle.paper.proofs.DayLaws.{SoundDay, sound_day}
 use Rattle.records.specs.Verdicts.{verdict_as, verdict_in}
 use Rattle.records.specs.declared.verdicts.Verdict as code
-use Rattle.records.specs.declared.verdicts.Verdict.TheVariants.{Accepted}
+use Rattle.std.specs.Prelude.{Ok}
 use Rattle.weather.specs.Today.{weather_of}
 use Rattle.weather.proofs.TodayLaws.{today_fits}
 use Rattle.covers.specs.Plots.{plots_of}
@@ -63,7 +63,7 @@ module _ (s : Setup) (st : State) (r : Results) (d : Day) (slots ways order : Li
     weather v = let sound : SoundDay s st r d = sound_day s st r d v in is ∙ today_fits s.climate st.past d sound.day sound.memory
 
 -- a refusal of some tests that is the refusal of all
-decided : {some all : Verdict} → ((why : Refusal) → some ≡ refused why → all ≡ refused why) → {v : code.Verdict} → v ≡ verdict_in some → (v ≡ Accepted → ⊥)
+decided : {some all : Verdict} → ((why : Refusal) → some ≡ refused why → all ≡ refused why) → {v : code.Verdict} → v ≡ verdict_in some → (v ≡ (Ok tt) → ⊥)
     → v ≡ verdict_in all
 decided {some} {all} decides {v} e not = go some refl
   where
@@ -77,14 +77,14 @@ module _ (s : Setup) (st : State) (r : Results) (d : Day) where
   Handed o totals state = record { verdict = verdict_as o; results = r; totals = totals; state = state } ≡ day_of s st r d
 
   -- by tests 1 and 2 of the stores and the results
-  pub lent_refuses : (o v : code.Verdict) → v ≡ verdict_in (verdict (lent_tests s.grid (lent_lengths st r))) → (v ≡ Accepted → ⊥)
+  pub lent_refuses : (o v : code.Verdict) → v ≡ verdict_in (verdict (lent_tests s.grid (lent_lengths st r))) → (v ≡ (Ok tt) → ⊥)
       → (totals : Totals) (state : State) → o ≡ v → totals ≡ no_totals → state ≡ st → Handed o totals state
   unfolding verdict_of lengths_of
   lent_refuses o v e not totals state same none kept =
       refused_answer s st r d o v totals state same none kept (decided (lent_decides s (lent_lengths st r) st d) e not) not
 
   -- by the survey
-  pub survey_refuses : one_each (cells s) (lent_lengths st r) ≡ true → (o v : code.Verdict) → v ≡ verdict_in (check_of s) → (v ≡ Accepted → ⊥)
+  pub survey_refuses : one_each (cells s) (lent_lengths st r) ≡ true → (o v : code.Verdict) → v ≡ verdict_in (check_of s) → (v ≡ (Ok tt) → ⊥)
       → (totals : Totals) (state : State) → o ≡ v → totals ≡ no_totals → state ≡ st → Handed o totals state
   unfolding verdict_of lengths_of
   survey_refuses each o v e not totals state same none kept =

@@ -8,7 +8,7 @@ ghost use Rattle.records.specs.Answers.{results_as, outcome_as};
 
 use crate::surveyed::surveyed_day;
 use admission::{Lengths, lent_verdict};
-use records::{Answer, Climate, DayRecord, Grid, MOST_CELLS, Past, Verdict};
+use records::{Answer, Climate, DayRecord, Grid, MOST_CELLS, Past};
 use survey::survey;
 
 // One day: tests 1 to 10, then the five results and the two stores of every cell, the totals, and the next memory, serial and frost index. A day refused hands
@@ -45,7 +45,7 @@ pub fn day(
         rejected: rejected.len(),
     };
     let lent = lent_verdict(grid, soil.len(), snow.len(), lengths);
-    let Verdict::Accepted = lent else {
+    let Ok(()) = lent else {
         return Answer::refused(lent, past);
     };
     let mut slots = [0u8; MOST_CELLS];
@@ -55,7 +55,7 @@ pub fn day(
         grid, climate, covers, direction, cover, group, available, &mut slots, &mut ways,
         &mut order,
     );
-    let Verdict::Accepted = setup else {
+    let Ok(()) = setup else {
         return Answer::refused(setup, past);
     };
     surveyed_day(

@@ -14,9 +14,6 @@ mod ways;
 
 pub use calls::day;
 pub use periods::{Ended, period};
-pub use records::{
-    Answer, Climate, CurveNumber, DayRecord, Depth, FrostIndex, Grid, Last, Memory, Past, Refusal,
-    Season, Setpoints, Start, TenthF, Totals, Verdict,
-};
+pub use records::{Answer, Climate, CurveNumber, DayRecord, Depth, FrostIndex, Grid, Memory, Past, Refusal, Season, Setpoints, Start, TenthF, Totals};
 pub use stores::fresh;
 pub use survey::check;

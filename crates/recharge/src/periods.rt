@@ -9,20 +9,20 @@ ghost use Rattle.recharge.specs.Period.{SumsRoom, Added, Addable, DayAdded, list
 
 use crate::surveyed::surveyed_day;
 use daybook::{DAY_NUMBERS, day_at, put_totals};
-use records::{Climate, Grid, MOST_CELLS, Past, Refusal, Verdict, wide};
+use records::{Climate, Grid, MOST_CELLS, Past, Refusal, wide};
 use stores::fresh;
 use survey::survey;
 
 // How many days were accepted: all of them, or those before the one that is refused; and what the next day would remember.
 #[derive(Clone, Copy)]
 pub struct Ended {
-    pub verdict: Verdict,
+    pub verdict: Result<(), Refusal>,
     pub days: usize,
     pub past: Past,
 }
 
 // Before any day.
-fn unbegun(verdict: Verdict) -> Ended
+fn unbegun(verdict: Result<(), Refusal>) -> Ended
     ensures { (result.verdict ≡ verdict) × (result.days ≡ 0) × (past_as result.past ≡ no_past) }
 {
     let past = Past::none();
@@ -140,7 +140,7 @@ fn run(
         );
         let verdict = answer.verdict;
         past = answer.past;
-        let Verdict::Accepted = verdict else {
+        let Ok(()) = verdict else {
             return Ended {
                 verdict,
                 days: k,
@@ -160,7 +160,7 @@ fn run(
         k += 1;
     }
     Ended {
-        verdict: Verdict::Accepted,
+        verdict: Ok(()),
         days: count,
         past,
     }
@@ -196,16 +196,16 @@ pub fn period(
         soil.new snow.new sums.new totals.new }
 {
     if !grid.fits() {
-        return unbegun(Verdict::Refused(Refusal::Grid));
+        return unbegun(Err(Refusal::Grid));
     }
     if !lists_fit(grid.cells(), days.len(), sums.len(), totals.len()) {
-        return unbegun(Verdict::Refused(Refusal::Lent));
+        return unbegun(Err(Refusal::Lent));
     }
     let start = fresh(
         grid, climate, covers, direction, cover, group, available, soil, snow,
     );
     let verdict = start.verdict;
-    let Verdict::Accepted = verdict else {
+    let Ok(()) = verdict else {
         return unbegun(verdict);
     };
     let past = start.past;

@@ -7,7 +7,7 @@ ghost use Rattle.recharge.specs.Surveyed.{SomeReady, Answered};
 use crate::downhill::downhill;
 use admission::day_verdict;
 use covers::PLOT_ROOM;
-use records::{Answer, Climate, DayRecord, Grid, MOST_CELLS, Past, Verdict};
+use records::{Answer, Climate, DayRecord, Grid, MOST_CELLS, Past};
 use weather::today_of;
 
 // It need not be told the cells' directions, covers and groups again: of every setup that it is ready for, the answer is the day's.
@@ -42,7 +42,7 @@ pub(crate) fn surveyed_day(
     let verdict = day_verdict(
         grid, today, covers, slots, available, soil, snow, past, day, &mut plots,
     );
-    let Verdict::Accepted = verdict else {
+    let Ok(()) = verdict else {
         return Answer::refused(verdict, past);
     };
     let totals = downhill(

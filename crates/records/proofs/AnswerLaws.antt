@@ -7,22 +7,21 @@ use Rattle.paper.specs.Day as paper
 use Rattle.records.specs.Past.{last_as, past_as}
 use Rattle.records.specs.Verdicts.{verdict_in}
 use Rattle.records.specs.Answers.{fresh_as, outcome_as}
-use Rattle.records.specs.declared.past.Last.{Last}
-use Rattle.records.specs.declared.past.Last.TheVariants.{Never, Serial}
+use Rattle.std.specs.Prelude.{Option, Some, None}
 use Rattle.records.specs.declared.past.Past.{Past}
 use Rattle.records.specs.declared.answers.Totals.{Totals}
 use Rattle.records.specs.declared.answers.Answer.{Answer}
 use Rattle.records.specs.declared.answers.Start.{Start}
 use Rattle.records.proofs.VerdictLaws.{verdict_forth}
 
-last_in : state.Last → Last
-last_in state.none = Never
-last_in (state.serial n) = Serial n
+last_in : state.Last → Option ℕ
+last_in state.none = None
+last_in (state.serial n) = Some n
 
-last_forth : (l : Last) → last_in (last_as l) ≡ l
+last_forth : (l : Option ℕ) → last_in (last_as l) ≡ l
 unfolding last_in
-last_forth Never = refl
-last_forth (Serial n) = refl
+last_forth None = refl
+last_forth (Some n) = refl
 
 past_in : state.Past → Past
 past_in p =

@@ -4,3 +4,4 @@ pub mod PlaceLaws
 pub mod VerdictLaws
 pub mod AnswerLaws
 pub mod FrontLaws
+pub mod LentLaws

@@ -4,8 +4,7 @@ use Rattle.paper.specs.Refusals as paper
 use Rattle.records.specs.Verdicts.{refusal_as, refusal_in, verdict_as, verdict_in}
 use Rattle.records.specs.declared.verdicts.Refusal.{Refusal}
 use Rattle.records.specs.declared.verdicts.Refusal.TheVariants as refusals
-use Rattle.records.specs.declared.verdicts.Verdict.{Verdict}
-use Rattle.records.specs.declared.verdicts.Verdict.TheVariants.{Accepted, Refused}
+use Rattle.std.specs.Prelude.{Result, Ok, Err}
 
 refusal_back : (why : paper.Refusal) → refusal_as (refusal_in why) ≡ why
 refusal_back paper.grid = refl
@@ -35,9 +34,9 @@ pub verdict_back : (v : paper.Verdict) → verdict_as (verdict_in v) ≡ v
 verdict_back paper.accepted = refl
 verdict_back (paper.refused why) = ap paper.refused (refusal_back why)
 
-pub verdict_forth : (v : Verdict) → verdict_in (verdict_as v) ≡ v
-verdict_forth Accepted = refl
-verdict_forth (Refused why) = ap Refused (refusal_forth why)
+pub verdict_forth : (v : Result (Unit {0}) Refusal) → verdict_in (verdict_as v) ≡ v
+verdict_forth (Ok done) = refl
+verdict_forth (Err why) = ap Err (refusal_forth why)
 
-pub accepted_back : (v : paper.Verdict) → Accepted ≡ verdict_in v → v ≡ paper.accepted
+pub accepted_back : (v : paper.Verdict) → Ok tt ≡ verdict_in v → v ≡ paper.accepted
 accepted_back v e = sym (verdict_back v) ∙ ap verdict_as (sym e)

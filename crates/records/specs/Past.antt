@@ -1,9 +1,7 @@
 -- What a state has besides its stores, and with the lent stores the paper's state.
-use Rattle.std.specs.Prelude.{List, ℕ}
+use Rattle.std.specs.Prelude.{List, ℕ, Option, Some, None}
 use Rattle.paper.specs.State as paper
 use Rattle.records.specs.declared.past.Memory.{Memory}
-use Rattle.records.specs.declared.past.Last.{Last}
-use Rattle.records.specs.declared.past.Last.TheVariants.{Never, Serial}
 use Rattle.records.specs.declared.past.Past.{Past}
 
 abbrev pub memory_as : Memory → paper.Memory
@@ -16,9 +14,9 @@ memory_as m =
       yesterday = m.yesterday.0;
     }
 
-abbrev pub last_as : Last → paper.Last
-last_as Never = paper.none
-last_as (Serial n) = paper.serial n
+abbrev pub last_as : Option ℕ → paper.Last
+last_as None = paper.none
+last_as (Some n) = paper.serial n
 
 abbrev pub past_as : Past → paper.Past
 past_as p = record { memory = memory_as p.memory; last = last_as p.last; frost = p.frost.0 }

@@ -2,8 +2,7 @@
 use Rattle.paper.specs.Refusals as paper
 use Rattle.records.specs.declared.verdicts.Refusal.{Refusal}
 use Rattle.records.specs.declared.verdicts.Refusal.TheVariants as refusals
-use Rattle.records.specs.declared.verdicts.Verdict.{Verdict}
-use Rattle.records.specs.declared.verdicts.Verdict.TheVariants.{Accepted, Refused}
+use Rattle.std.specs.Prelude.{Result, Ok, Err}
 
 abbrev pub refusal_as : Refusal → paper.Refusal
 refusal_as refusals.Grid = paper.grid
@@ -29,10 +28,14 @@ refusal_in paper.serial_gap = refusals.SerialGap
 refusal_in (paper.state_at i) = refusals.StateAt i
 refusal_in (paper.snowfall i) = refusals.Snowfall i
 
+-- what a call of the code answers: nothing where it accepts, else a refusal
+abbrev pub Verdict : Type 0
+Verdict = Result (Unit {0}) Refusal
+
 abbrev pub verdict_as : Verdict → paper.Verdict
-verdict_as Accepted = paper.accepted
-verdict_as (Refused why) = paper.refused (refusal_as why)
+verdict_as (Ok done) = paper.accepted
+verdict_as (Err why) = paper.refused (refusal_as why)
 
 abbrev pub verdict_in : paper.Verdict → Verdict
-verdict_in paper.accepted = Accepted
-verdict_in (paper.refused why) = Refused (refusal_in why)
+verdict_in paper.accepted = Ok tt
+verdict_in (paper.refused why) = Err (refusal_in why)

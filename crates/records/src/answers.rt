@@ -1,12 +1,11 @@
 // What the calls hand back.
-ghost use Rattle.std.specs.Prelude.{◌≡◌};
+ghost use Rattle.std.specs.Prelude.{◌≡◌, Ok, Err};
 ghost use Rattle.paper.specs.Day.{no_totals};
 ghost use Rattle.records.specs.Answers.{totals_as};
-ghost use Rattle.records.specs.declared.verdicts.Verdict.TheVariants.{Accepted};
 
 use crate::past::Past;
 use crate::quantities::Depth;
-use crate::verdicts::Verdict;
+use crate::verdicts::Refusal;
 
 // Sums over the cells; of what is gone and rejected, only where water leaves: over the edge and from open water, and in closed depressions.
 #[derive(Clone, Copy)]
@@ -22,7 +21,7 @@ pub struct Totals {
 
 #[derive(Clone, Copy)]
 pub struct Answer {
-    pub verdict: Verdict,
+    pub verdict: Result<(), Refusal>,
     pub totals: Totals,
     pub past: Past,
 }
@@ -30,7 +29,7 @@ pub struct Answer {
 // What a fresh state has besides its stores.
 #[derive(Clone, Copy)]
 pub struct Start {
-    pub verdict: Verdict,
+    pub verdict: Result<(), Refusal>,
     pub past: Past,
 }
 
@@ -52,11 +51,11 @@ impl Totals {
 
 impl Answer {
     // A refused day hands back what it was given, and no totals.
-    pub fn refused(verdict: Verdict, past: Past) -> Answer
-        ensures { (result.verdict ≡ verdict) × (totals_as result.totals ≡ no_totals) × (result.past ≡ past) }
+    pub fn refused(why: Refusal, past: Past) -> Answer
+        ensures { (result.verdict ≡ Err why) × (totals_as result.totals ≡ no_totals) × (result.past ≡ past) }
     {
         Answer {
-            verdict,
+            verdict: Err(why),
             totals: Totals::none(),
             past,
         }
@@ -64,10 +63,10 @@ impl Answer {
 
     // An accepted day hands back its totals and what the next day remembers.
     pub fn accepted(totals: Totals, past: Past) -> Answer
-        ensures { (result.verdict ≡ Accepted) × (result.totals ≡ totals) × (result.past ≡ past) }
+        ensures { (result.verdict ≡ Ok tt) × (result.totals ≡ totals) × (result.past ≡ past) }
     {
         Answer {
-            verdict: Verdict::Accepted,
+            verdict: Ok(()),
             totals,
             past,
         }

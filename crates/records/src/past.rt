@@ -18,17 +18,11 @@ pub struct Memory {
     pub yesterday: Depth,
 }
 
-// The last serial, or none yet.
-#[derive(Clone, Copy)]
-pub enum Last {
-    Never,
-    Serial(u32),
-}
-
 #[derive(Clone, Copy)]
 pub struct Past {
     pub memory: Memory,
-    pub last: Last,
+    // The last serial, where a day was accepted yet.
+    pub last: Option<u32>,
     pub frost: FrostIndex,
 }
 
@@ -63,26 +57,13 @@ impl Memory {
     }
 }
 
-impl Last {
-    #[tactic(auto, unfolding(paper::specs::State::last_fits))]
-    pub fn fits(self) -> bool
-        ensures { result ≡ last_fits (last_as self) }
-    {
-        match self {
-            Last::Never => true,
-            Last::Serial(before) => before <= DayRecord::MOST_SERIAL,
-        }
-    }
-
-    // Test 8. One more than the last serial can pass 32 bits.
-    #[tactic(auto, unfolding(paper::specs::State::follows))]
-    pub fn is_followed_by(self, serial: u32) -> bool
-        ensures { result ≡ follows (last_as self) serial }
-    {
-        match self {
-            Last::Never => true,
-            Last::Serial(before) => serial as u64 == before as u64 + 1,
-        }
+#[tactic(auto, unfolding(paper::specs::State::last_fits))]
+fn last_fits(last: Option<u32>) -> bool
+    ensures { result ≡ last_fits (last_as last) }
+{
+    match last {
+        None => true,
+        Some(serial) => serial <= DayRecord::MOST_SERIAL,
     }
 }
 
@@ -100,7 +81,7 @@ impl Past {
         };
         Past {
             memory,
-            last: Last::Never,
+            last: None,
             frost: FrostIndex(0),
         }
     }
@@ -115,8 +96,20 @@ impl Past {
         let mean = day.mean;
         Past {
             memory: memory.next(gross),
-            last: Last::Serial(day.serial),
+            last: Some(day.serial),
             frost: frost_after(frost, mean),
+        }
+    }
+
+    // Test 8. One more than the last serial can pass 32 bits.
+    #[tactic(auto, unfolding(paper::specs::State::follows))]
+    pub fn is_followed_by(self, serial: u32) -> bool
+        ensures { result ≡ follows (last_as self.last) serial }
+    {
+        let last = self.last;
+        match last {
+            None => true,
+            Some(before) => u64::from(serial) == u64::from(before) + 1,
         }
     }
 
@@ -126,6 +119,6 @@ impl Past {
     {
         let memory = self.memory;
         let last = self.last;
-        memory.fits() & last.fits() & (self.frost.0 <= FrostIndex::MOST.0)
+        memory.fits() & last_fits(last) & (self.frost.0 <= FrostIndex::MOST.0)
     }
 }

@@ -1,9 +1,9 @@
-// What is wrong, with its place. A verdict says the paper's number and place of itself.
+// What is wrong, with its place. A refusal says the paper's number and place of itself; a verdict is a Result, whose error is a refusal.
 ghost use Rattle.std.specs.Prelude.{◌≡◌, ◌≤◌};
-ghost use Rattle.paper.specs.Refusals.{number_of, place_of, verdict_number, verdict_place};
-ghost use Rattle.records.specs.Verdicts.{refusal_as, verdict_as};
+ghost use Rattle.paper.specs.Refusals.{number_of, place_of};
+ghost use Rattle.records.specs.Verdicts.{refusal_as};
 
-#[derive(Clone, Copy)]
+#[derive(Clone, Copy, PartialEq, Eq)]
 pub enum Refusal {
     Grid,
     Lent,
@@ -15,12 +15,6 @@ pub enum Refusal {
     SerialGap,
     StateAt(usize),
     Snowfall(usize),
-}
-
-#[derive(Clone, Copy)]
-pub enum Verdict {
-    Accepted,
-    Refused(Refusal),
 }
 
 impl Refusal {
@@ -47,39 +41,16 @@ impl Refusal {
         ensures { result ≡ place_of (refusal_as self) }
     {
         match self {
-            Refusal::Grid => 0,
-            Refusal::Lent => 0,
             Refusal::CoverTable(entry) => entry,
-            Refusal::CellNumbers(cell) => cell,
-            Refusal::Ring(cell) => cell,
-            Refusal::Climate => 0,
-            Refusal::DayRecord => 0,
-            Refusal::SerialGap => 0,
-            Refusal::StateAt(cell) => cell,
-            Refusal::Snowfall(cell) => cell,
-        }
-    }
-}
-
-impl Verdict {
-    // 0 where it accepts.
-    #[tactic(auto, unfolding(paper::specs::Refusals::verdict_number))]
-    pub fn number(self) -> u32
-        ensures { (result ≡ verdict_number (verdict_as self)) × (result ≤ 10) }
-    {
-        match self {
-            Verdict::Accepted => 0,
-            Verdict::Refused(why) => why.number(),
-        }
-    }
-
-    #[tactic(auto, unfolding(paper::specs::Refusals::verdict_place))]
-    pub fn place(self) -> usize
-        ensures { result ≡ verdict_place (verdict_as self) }
-    {
-        match self {
-            Verdict::Accepted => 0,
-            Verdict::Refused(why) => why.place(),
+            Refusal::CellNumbers(cell)
+            | Refusal::Ring(cell)
+            | Refusal::StateAt(cell)
+            | Refusal::Snowfall(cell) => cell,
+            Refusal::Grid
+            | Refusal::Lent
+            | Refusal::Climate
+            | Refusal::DayRecord
+            | Refusal::SerialGap => 0,
         }
     }
 }

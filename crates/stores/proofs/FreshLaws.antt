@@ -22,7 +22,7 @@ use Rattle.covers.proofs.TableLaws.{count_limit}
 use Rattle.survey.specs.Charts.{SlotsFit, Mapped}
 use Rattle.stores.specs.Fresh.{Filled}
 use Rattle.records.specs.declared.verdicts.Verdict as code
-use Rattle.records.specs.declared.verdicts.Verdict.TheVariants.{Accepted, Refused}
+use Rattle.std.specs.Prelude.{Ok, Err}
 use Rattle.records.proofs.VerdictLaws.{verdict_back}
 use Rattle.survey.proofs.CallLaws.{more_fit}
 use Rattle.survey.proofs.CellLaws.{cell_is}
@@ -46,7 +46,7 @@ module _ (s : Setup) (soil snow : List ℕ) where
 
   -- what comes back when a fresh state is refused
   pub refused_fresh : (why : Refusal) (o called : code.Verdict) (past : Past) → verdict (setup_tests s lengths) ≡ refused why → o ≡ called
-      → called ≡ Refused (refusal_in why) → past ≡ no_past
+      → called ≡ Err (refusal_in why) → past ≡ no_past
       → record { verdict = verdict_as o; state = record { soil = soil; snow = snow; past = past } } ≡ fresh_of s soil snow
   unfolding fresh_of fresh_as
   refused_fresh why o called past v same e none =
@@ -57,7 +57,7 @@ module _ (s : Setup) (soil snow : List ℕ) where
       ∙ sym (ap (fresh_as s soil snow) v)
 
   module _ (each : one_each (cells s) (length soil ∷ length snow ∷ []) ≡ true) where
-    pub survey_fresh : (o called : code.Verdict) (past : Past) → called ≡ verdict_in (check_of s) → (called ≡ Accepted → ⊥)
+    pub survey_fresh : (o called : code.Verdict) (past : Past) → called ≡ verdict_in (check_of s) → (called ≡ (Ok tt) → ⊥)
         → o ≡ called → past ≡ no_past
         → record { verdict = verdict_as o; state = record { soil = soil; snow = snow; past = past } } ≡ fresh_of s soil snow
     survey_fresh o called past e not same none = go (check_of s) refl
@@ -89,7 +89,7 @@ module _ (s : Setup) (soil snow : List ℕ) where
           ap (λ (k : ℕ). most_soil_of (cell_from s.covers k (get_or s.available i 0) (next s i))) (slot_at_lem s chart lent slots m.slots_are m.slots_sized waters i h)
           ∙ ap most_soil_of (sym (cell_is s chart i h))
 
-      pub accepted_fresh : (o called : code.Verdict) (past : Past) (soil' snow' : List ℕ) → o ≡ called → called ≡ Accepted
+      pub accepted_fresh : (o called : code.Verdict) (past : Past) (soil' snow' : List ℕ) → o ≡ called → called ≡ (Ok tt)
           → past ≡ no_past → Filled s.covers slots s.available soil' snow'
           → record { verdict = verdict_as o; state = record { soil = soil'; snow = snow'; past = past } } ≡ fresh_of s soil snow
       unfolding fresh_of fresh_as fresh_state

@@ -9,11 +9,11 @@ ghost use Rattle.survey.specs.Charts.{SlotsFit};
 ghost use Rattle.stores.specs.Fresh.{Filled};
 
 use covers::{root_depths, small_index};
-use records::{Climate, Grid, MOST_CELLS, Past, Refusal, Start, Verdict, stores_each};
+use records::{Climate, Grid, MOST_CELLS, Past, Refusal, Start, one_each};
 use survey::survey;
 
 // No rain yet, no serial and no frost.
-fn begin(verdict: Verdict) -> Start
+fn begin(verdict: Result<(), Refusal>) -> Start
     ensures { (result.verdict ≡ verdict) × (past_as result.past ≡ no_past) }
 {
     let past = Past::none();
@@ -58,10 +58,10 @@ pub fn fresh(
         soil.old snow.old }
 {
     if !grid.fits() {
-        return begin(Verdict::Refused(Refusal::Grid));
+        return begin(Err(Refusal::Grid));
     }
-    if !stores_each(grid.cells(), soil.len(), snow.len()) {
-        return begin(Verdict::Refused(Refusal::Lent));
+    if !one_each(grid.cells(), &[soil.len(), snow.len()]) {
+        return begin(Err(Refusal::Lent));
     }
     let mut slots = [0u8; MOST_CELLS];
     let mut ways = [0u32; MOST_CELLS];
@@ -70,9 +70,9 @@ pub fn fresh(
         grid, climate, covers, direction, cover, group, available, &mut slots, &mut ways,
         &mut order,
     );
-    let Verdict::Accepted = verdict else {
-        return begin(verdict);
-    };
+    if let Err(why) = verdict {
+        return begin(Err(why));
+    }
     fill(covers, &slots, available, soil, snow);
-    begin(verdict)
+    begin(Ok(()))
 }

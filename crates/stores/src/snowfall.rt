@@ -7,7 +7,7 @@ ghost use Rattle.stores.specs.Snowfall.{fall_by, snow_tests};
 
 use crate::states::within_32;
 use covers::{PLOT_NUMBERS, PLOT_ROOM, SNOWFALL, small_index};
-use records::{Depth, MOST_CELLS, Refusal, Verdict};
+use records::{Depth, MOST_CELLS, Refusal};
 
 fn is_deep(plots: &[u32; PLOT_ROOM], slot: u8, snow: u32) -> bool
     ensures { result ≡ ltb most_snow (snow + fall_by plots.now slot) }
@@ -17,7 +17,7 @@ fn is_deep(plots: &[u32; PLOT_ROOM], slot: u8, snow: u32) -> bool
 }
 
 // The lowest cell whose store the snowfall of its slot would take past its limit. There are slots for 4,096 stores: no store past them is looked at.
-pub fn snow_verdict(plots: &[u32; PLOT_ROOM], slots: &[u8; MOST_CELLS], snow: &[u32]) -> Verdict
+pub fn snow_verdict(plots: &[u32; PLOT_ROOM], slots: &[u8; MOST_CELLS], snow: &[u32]) -> Result<(), Refusal>
     ensures { result ≡ verdict_in (verdict (snow_tests plots.now slots.now snow.now)) }
 {
     let mut n = snow.len();
@@ -27,9 +27,9 @@ pub fn snow_verdict(plots: &[u32; PLOT_ROOM], slots: &[u8; MOST_CELLS], snow: &[
     let mut i = 0;
     while i < n {
         if is_deep(plots, slots[i], snow[i]) {
-            return Verdict::Refused(Refusal::Snowfall(i));
+            return Err(Refusal::Snowfall(i));
         }
         i += 1;
     }
-    Verdict::Accepted
+    Ok(())
 }

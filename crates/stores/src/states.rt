@@ -12,7 +12,7 @@ ghost use Rattle.covers.specs.Slots.{open_at, group_number_at};
 ghost use Rattle.stores.specs.States.{stores_from, stores_at, state_tests};
 
 use covers::{MOST_SLOTS, is_open, root_depths, small_index};
-use records::{Depth, Grid, MOST_CELLS, Past, Place, Refusal, Verdict, stores_each, wide};
+use records::{Depth, Grid, MOST_CELLS, Past, Refusal, one_each, wide};
 
 // A lent number has 32 bits, so that a product of two fits 64.
 pub(crate) fn within_32(x: u32) -> u64
@@ -57,7 +57,7 @@ fn bad_store(
     available: &[u32],
     soil: &[u32],
     snow: &[u32],
-) -> Place
+) -> Option<usize>
     requires { (length available.now ≤ 4096) × (length soil.now ≡ length available.now) × (length snow.now ≡ length available.now) }
     ensures { result ≡ place_in (lowest (length available.now)
         (λ i. not (stores_at covers.now slots.now available.now soil.now snow.now i))) }
@@ -67,11 +67,11 @@ fn bad_store(
     let mut i = 0;
     while i < n {
         if !stores_fit(covers, &roots, slots[i], available[i], soil[i], snow[i]) {
-            return Place::At(i);
+            return Some(i);
         }
         i += 1;
     }
-    Place::Nowhere
+    None
 }
 
 // Test 9, after tests 1 and 2 on the slices that it looks at. Slots that the table lacks have no roots and are not open water.
@@ -83,23 +83,23 @@ pub fn state_verdict(
     soil: &[u32],
     snow: &[u32],
     past: Past,
-) -> Verdict
+) -> Result<(), Refusal>
     ensures { result ≡ verdict_in (verdict (state_tests (grid_as grid) covers.now slots.now available.now
         soil.now snow.now (past_as past))) }
 {
     if !grid.fits() {
-        return Verdict::Refused(Refusal::Grid);
+        return Err(Refusal::Grid);
     }
     let n = grid.cells();
-    if !((available.len() == n) & stores_each(n, soil.len(), snow.len())) {
-        return Verdict::Refused(Refusal::Lent);
+    if !one_each(n, &[available.len(), soil.len(), snow.len()]) {
+        return Err(Refusal::Lent);
     }
     let store = bad_store(covers, slots, available, soil, snow);
-    if let Place::At(i) = store {
-        return Verdict::Refused(Refusal::StateAt(i));
+    if let Some(i) = store {
+        return Err(Refusal::StateAt(i));
     }
     if !past.fits() {
-        return Verdict::Refused(Refusal::StateAt(n));
+        return Err(Refusal::StateAt(n));
     }
-    Verdict::Accepted
+    Ok(())
 }

@@ -13,7 +13,7 @@ use Rattle.paper.specs.Refusals.{Refusal, grid, lent, Verdict, accepted, verdict
 use Rattle.paper.proofs.RefusalLaws.{pass_single, fail_single}
 use Rattle.records.specs.Verdicts.{refusal_in, verdict_in}
 use Rattle.records.specs.declared.verdicts.Verdict as code
-use Rattle.records.specs.declared.verdicts.Verdict.TheVariants.{Accepted, Refused}
+use Rattle.std.specs.Prelude.{Ok, Err}
 use Rattle.records.proofs.VerdictLaws.{accepted_back}
 use Rattle.survey.specs.Charts.{Wiped, Surveyable, Chart, Surveyed}
 
@@ -55,7 +55,7 @@ module _ (s : Setup) where
       }
 
   -- a setup refused leaves the arrays empty
-  pub refuse_survey : (before ways₀ : List ℕ) (r : code.Verdict) (why : Refusal) (slots ways order : List ℕ) → check_of s ≡ refused why → r ≡ Refused (refusal_in why) → Wiped slots ways order
+  pub refuse_survey : (before ways₀ : List ℕ) (r : code.Verdict) (why : Refusal) (slots ways order : List ℕ) → check_of s ≡ refused why → r ≡ Err (refusal_in why) → Wiped slots ways order
       → Surveyed s before ways₀ r slots ways order
   refuse_survey before ways₀ r why slots ways order v e wiped =
       record {
@@ -69,7 +69,7 @@ module _ (s : Setup) where
     unfolding check_of
     check_is = on_the_map (setup_lengths s) grid each
 
-    pub chart_refuses : (before ways₀ : List ℕ) (r : code.Verdict) (slots ways order : List ℕ) → r ≡ verdict_in (verdict (map_tests s)) → (r ≡ Accepted → ⊥) → Wiped slots ways order
+    pub chart_refuses : (before ways₀ : List ℕ) (r : code.Verdict) (slots ways order : List ℕ) → r ≡ verdict_in (verdict (map_tests s)) → (r ≡ (Ok tt) → ⊥) → Wiped slots ways order
         → Surveyed s before ways₀ r slots ways order
     chart_refuses before ways₀ r slots ways order e not wiped = go (verdict (map_tests s)) refl
       where
@@ -77,7 +77,7 @@ module _ (s : Setup) where
         go accepted q = absurd (not (e ∙ ap verdict_in q))
         go (refused why) q = refuse_survey before ways₀ r why slots ways order (check_is ∙ q) (e ∙ ap verdict_in q) wiped
 
-    pub chart_passes : (before ways₀ slots ways order : List ℕ) → Chart s before ways₀ Accepted slots ways order → Surveyed s before ways₀ Accepted slots ways order
+    pub chart_passes : (before ways₀ slots ways order : List ℕ) → Chart s before ways₀ (Ok tt) slots ways order → Surveyed s before ways₀ (Ok tt) slots ways order
     chart_passes before ways₀ slots ways order chart =
         record {
           verdict_is = chart.verdict_is ∙ sym (ap verdict_in check_is);

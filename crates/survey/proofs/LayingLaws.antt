@@ -21,7 +21,7 @@ use Rattle.covers.specs.Slots.{open_at}
 use Rattle.paper.specs.Directions.{Goes, way_of, goes_by}
 use Rattle.paper.specs.Setup.{pointed}
 use Rattle.records.specs.Places.{place_in}
-use Rattle.records.specs.declared.places.Place.TheVariants.{At, Nowhere}
+use Rattle.std.specs.Prelude.{Some, None}
 use Rattle.survey.specs.Order.{Counted, wait_for}
 use Rattle.survey.specs.Cells.{way_from, way_at, LaidOrBad}
 use Rattle.survey.proofs.DirectionLaws.{goes_at}
@@ -29,12 +29,12 @@ use Rattle.records.proofs.PlaceLaws.{PassedTo}
 use Rattle.survey.proofs.CountLaws.{count_one}
 
 -- at a cell without a slot nothing is said of the arrays
-pub laid_bad : (n : ℕ) (slot way : ℕ → ℕ) (i : ℕ) (slots₀ slots ways₀ ways order : List ℕ) → At i ≡ place_in (lowest n (λ j. eqb (slot j) 256))
-    → LaidOrBad n slot way (At i) slots₀ slots ways₀ ways order
+pub laid_bad : (n : ℕ) (slot way : ℕ → ℕ) (i : ℕ) (slots₀ slots ways₀ ways order : List ℕ) → Some i ≡ place_in (lowest n (λ j. eqb (slot j) 256))
+    → LaidOrBad n slot way (Some i) slots₀ slots ways₀ ways order
 laid_bad n slot way i slots₀ slots ways₀ ways order found =
     record { lowest_bad = found; slotted = λ e. absurd (never e); laid = λ e. absurd (never e); counted = λ e. absurd (never e) }
   where
-    never : At i ≡ Nowhere → ⊥
+    never : Some i ≡ None → ⊥
     never e = let z : ◌≡◌ {A = ℕ} 0 1 = cc in omega arith
 
 module _ (width height : ℕ) (covers direction : List ℕ) (slot : ℕ → ℕ) (slots₀ ways₀ : List ℕ) where

@@ -18,8 +18,8 @@ use Rattle.theory.specs.Ways.{on_ring, OneWay}
 use Rattle.theory.proofs.Cases.{by_cases, below_or_not, and_second}
 use Rattle.theory.proofs.SumLaws.{sum_most, given_most}
 use Rattle.theory.proofs.LowestLaws.{lowest_cong, lowest_none, none_lowest}
-use Rattle.records.specs.declared.places.Place.{Place}
-use Rattle.records.specs.declared.places.Place.TheVariants.{Nowhere}
+use Rattle.std.specs.Prelude.{Option}
+use Rattle.std.specs.Prelude.{Some, None}
 use Rattle.records.specs.Places.{place_in}
 use Rattle.survey.specs.Charts.{OrderedBy}
 use Rattle.survey.specs.Order.{OrderOrRing, leading, waits, queued, Counted, Queue, GatheredHeld, QueueHeld, ahead, PeeledHeld}
@@ -256,7 +256,7 @@ module _ {n : ℕ} {next : ℕ → ℕ} {sources tail : ℕ} {l : List ℕ} (p :
   ordered_by none = record { order = peeled p.kept.queue gone out none; listed = λ t h. omega (arith, none t h, peeled_who p.kept.queue gone out none t) }
 
   -- none is left
-  pub all_taken : n ≤ tail → OrderOrRing n next Nowhere l
+  pub all_taken : n ≤ tail → OrderOrRing n next None l
   unfolding place_in
   all_taken h =
       record {
@@ -267,10 +267,10 @@ module _ {n : ℕ} {next : ℕ → ℕ} {sources tail : ℕ} {l : List ℕ} (p :
       none : (i : ℕ) → i < n → waits l i ≡ 0
       none i a = ⊎_elim (λ e. e) (λ w. absurd (omega (arith, room p.kept.queue i a w))) (eq-zero-or-pos (waits l i))
 
-  pub some_left : {r : Place} → r ≡ place_in (lowest n (λ i. ltb 0 (waits l i))) → OrderOrRing n next r l
+  pub some_left : {r : (Option ℕ)} → r ≡ place_in (lowest n (λ i. ltb 0 (waits l i))) → OrderOrRing n next r l
   some_left {r} e = record { ring = e ∙ ap place_in rings; ordered = λ f. ordered_by (none (sym e ∙ f)) }
     where
-      none : place_in (lowest n (λ i. ltb 0 (waits l i))) ≡ Nowhere → (i : ℕ) → i < n → waits l i ≡ 0
+      none : place_in (lowest n (λ i. ltb 0 (waits l i))) ≡ None → (i : ℕ) → i < n → waits l i ≡ 0
       none p i a =
           omega (
             arith,

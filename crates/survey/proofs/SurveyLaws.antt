@@ -21,7 +21,7 @@ use Rattle.records.specs.Verdicts.{refusal_in, verdict_in}
 use Rattle.survey.specs.Charts.{Surveyable, Chart, slot_of, next_as, WaysFit, OrderedBy}
 use Rattle.survey.specs.Order.{Counted, OrderOrRing}
 use Rattle.survey.specs.Cells.{slot_at, way_at, Layable, LaidOrBad}
-use Rattle.records.specs.declared.verdicts.Verdict.TheVariants.{Accepted, Refused}
+use Rattle.std.specs.Prelude.{Ok, Err}
 use Rattle.paper.proofs.SetupLaws.{Charted, next_past}
 use Rattle.survey.proofs.SlotLaws.{index_fits, index_entered, slot_test, slot_is}
 use Rattle.survey.proofs.CellLaws.{way_is}
@@ -30,8 +30,8 @@ use Rattle.records.specs.declared.verdicts.Verdict as code
 use Rattle.covers.specs.Table.{EntriesFit, index_of}
 use Rattle.covers.proofs.TableLaws.{accepted_table}
 use Rattle.records.specs.Places.{place_in}
-use Rattle.records.specs.declared.places.Place.{Place}
-use Rattle.records.specs.declared.places.Place.TheVariants.{At, Nowhere}
+use Rattle.std.specs.Prelude.{Option}
+use Rattle.std.specs.Prelude.{Some, None}
 
 module _ (s : Setup) where
   abbrev cell_test : Test
@@ -46,7 +46,7 @@ module _ (s : Setup) where
 
   -- a refusal, in the code's own words
   refuse : (lent ways₀ : List ℕ) (why : Refusal) (slots ways order : List ℕ) → verdict (map_tests s) ≡ refused why
-      → Chart s lent ways₀ (Refused (refusal_in why)) slots ways order
+      → Chart s lent ways₀ (Err (refusal_in why)) slots ways order
   refuse lent ways₀ why slots ways order v =
       record {
         verdict_is = sym (ap verdict_in v);
@@ -54,7 +54,7 @@ module _ (s : Setup) where
       }
 
   pub table_refuses : (lent ways₀ : List ℕ) (r : code.Verdict) (slots ways order : List ℕ) → r ≡ verdict_in (verdict (cover_test s.covers ∷ []))
-      → (r ≡ Accepted → ⊥) → Chart s lent ways₀ r slots ways order
+      → (r ≡ (Ok tt) → ⊥) → Chart s lent ways₀ r slots ways order
   unfolding map_tests
   table_refuses lent ways₀ r slots ways order e not = go (verdict (cover_test s.covers ∷ [])) refl
     where
@@ -115,15 +115,15 @@ module _ (s : Setup) (lent ways₀ : List ℕ) (pre : Surveyable s) (table : ver
         ways_sized = ways_sized;
       }
 
-  module _ (r : Place) (slots ways counts : List ℕ) (lb : LaidOrBad (s.grid.width * s.grid.height) slot way r lent slots ways₀ ways counts) where
+  module _ (r : (Option ℕ)) (slots ways counts : List ℕ) (lb : LaidOrBad (s.grid.width * s.grid.height) slot way r lent slots ways₀ ways counts) where
     search_is : r ≡ place_in (lowest (cells s) (λ i. not (cell_fits s i)))
     unfolding cells_of
     search_is = lb.lowest_bad ∙ ap place_in (lowest_cong (cells s) _ _ (λ i h. slot_test s index fit known i))
 
-    pub cell_refuses : (i : ℕ) (order : List ℕ) → r ≡ At i → Chart s lent ways₀ (Refused (refusal_in (cell_numbers i))) slots ways order
+    pub cell_refuses : (i : ℕ) (order : List ℕ) → r ≡ Some i → Chart s lent ways₀ (Err (refusal_in (cell_numbers i))) slots ways order
     cell_refuses i order e = refuse s lent ways₀ (cell_numbers i) slots ways order (cell_bad s table i (found_at _ i (sym e ∙ search_is)))
 
-    module _ (through : r ≡ Nowhere) where
+    module _ (through : r ≡ None) where
       cells_fit : lowest (cells s) (λ k. not (cell_fits s k)) ≡ nowhere
       cells_fit = found_no _ (sym through ∙ search_is)
 
@@ -167,25 +167,25 @@ module _ (s : Setup) (lent ways₀ : List ℕ) (pre : Surveyable s) (table : ver
       pub order_ask : WaysFit (length s.direction) ways × Counted (length s.direction) (next_as (length s.direction) ways) (length s.direction) counts
       order_ask = rw pre.directions (record { most = pre.few; sized = ways_whole }, counts_are)
 
-      module _ (found : Place) (order : List ℕ) (o : OrderOrRing (length s.direction) (next_as (length s.direction) ways) found order) where
+      module _ (found : (Option ℕ)) (order : List ℕ) (o : OrderOrRing (length s.direction) (next_as (length s.direction) ways) found order) where
         ring_is : found ≡ place_in (lowest (cells s) (on_ring (cells s) (next s)))
         ring_is = rw (pre.directions, ways_point) at o.ring
 
         -- each way out after the order
-        pub ring_refuses : (i : ℕ) → found ≡ At i → Chart s lent ways₀ (Refused (refusal_in (ring i))) slots ways order
+        pub ring_refuses : (i : ℕ) → found ≡ Some i → Chart s lent ways₀ (Err (refusal_in (ring i))) slots ways order
         ring_refuses i e = refuse s lent ways₀ (ring i) slots ways order (ring_bad s table cells_fit i (found_at _ i (sym e ∙ ring_is)))
 
-        module _ (straight : found ≡ Nowhere) where
+        module _ (straight : found ≡ None) where
           no_ring : lowest (cells s) (on_ring (cells s) (next s)) ≡ nowhere
           no_ring = found_no _ (sym straight ∙ ring_is)
 
           ordered_by : OrderedBy (cells s) (next s) order
           ordered_by = rw (pre.directions, ways_point) at (o.ordered straight)
 
-          pub climate_refuses : climate_fits s.climate ≡ false → Chart s lent ways₀ (Refused (refusal_in climate)) slots ways order
+          pub climate_refuses : climate_fits s.climate ≡ false → Chart s lent ways₀ (Err (refusal_in climate)) slots ways order
           climate_refuses e = refuse s lent ways₀ climate slots ways order (climate_bad s table cells_fit no_ring e)
 
-          pub surveyed : climate_fits s.climate ≡ true → Chart s lent ways₀ Accepted slots ways order
+          pub surveyed : climate_fits s.climate ≡ true → Chart s lent ways₀ (Ok tt) slots ways order
           surveyed e =
               record {
                 verdict_is = sym (ap verdict_in (all_pass s table cells_fit no_ring e));

@@ -7,8 +7,8 @@ use Rattle.paper.specs.Covers.{entries}
 use Rattle.paper.specs.Directions.{way_of, goes_by}
 use Rattle.paper.specs.Setup.{pointed}
 use Rattle.records.specs.Places.{place_in}
-use Rattle.records.specs.declared.places.Place.{Place}
-use Rattle.records.specs.declared.places.Place.TheVariants.{Nowhere}
+use Rattle.std.specs.Prelude.{Option}
+use Rattle.std.specs.Prelude.{Some, None}
 use Rattle.covers.specs.Slots.{open_at}
 use Rattle.survey.specs.Ways.{goes_from}
 use Rattle.survey.specs.Order.{Counted}
@@ -52,8 +52,8 @@ pub record Layable (width height : ℕ) (index covers direction cover group avai
   pub ways_sized : length ways ≡ 4096
 
 -- the lowest cell without a slot; and where there is none, the slots and the ways over the front of their arrays, and how many cells lead to each
-pub record LaidOrBad (n : ℕ) (slot way : ℕ → ℕ) (r : Place) (slots₀ slots ways₀ ways order : List ℕ) : Type 0 where
+pub record LaidOrBad (n : ℕ) (slot way : ℕ → ℕ) (r : (Option ℕ)) (slots₀ slots ways₀ ways order : List ℕ) : Type 0 where
   pub lowest_bad : r ≡ place_in (lowest n (λ i. eqb (slot i) 256))
-  pub slotted : r ≡ Nowhere → slots ≡ made_over n slot slots₀
-  pub laid : r ≡ Nowhere → ways ≡ made_over n way ways₀
-  pub counted : r ≡ Nowhere → Counted n way n order
+  pub slotted : r ≡ None → slots ≡ made_over n slot slots₀
+  pub laid : r ≡ None → ways ≡ made_over n way ways₀
+  pub counted : r ≡ None → Counted n way n order

@@ -8,7 +8,7 @@ use Rattle.paper.specs.Setup.{Setup, cells, next, entry_of, group_of}
 use Rattle.paper.specs.Refusals.{Refusal, verdict, accepted, refused, map_tests}
 use Rattle.paper.specs.Day.{check_of}
 use Rattle.records.specs.Verdicts.{verdict_in}
-use Rattle.records.specs.declared.verdicts.Verdict.{Verdict}
+use Rattle.records.specs.Verdicts.{Verdict}
 use Rattle.covers.specs.Table.{EntriesFit}
 
 -- a cell's slot: 4 × the entry of its cover + its group - 1

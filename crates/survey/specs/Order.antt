@@ -5,8 +5,8 @@ use Rattle.std.specs.Prelude.{◌≡◌, Bool, false, cond, ◌&&◌, List, ℕ,
 use Rattle.theory.specs.Sums.{sum, given}
 use Rattle.theory.specs.Ways.{on_ring}
 use Rattle.theory.specs.Lowest.{lowest}
-use Rattle.records.specs.declared.places.Place.{Place}
-use Rattle.records.specs.declared.places.Place.TheVariants.{Nowhere}
+use Rattle.std.specs.Prelude.{Option}
+use Rattle.std.specs.Prelude.{Some, None}
 use Rattle.records.specs.Places.{place_in}
 use Rattle.survey.specs.Charts.{OrderedBy}
 
@@ -80,6 +80,6 @@ pub record PeeledHeld (n : ℕ) (next : ℕ → ℕ) (head sources tail : ℕ) (
   pub still : (t : ℕ) → t < tail → rest (queued l t) ≡ ahead head sources t
 
 -- the lowest cell on a ring; and where there is none, the order
-pub record OrderOrRing (n : ℕ) (next : ℕ → ℕ) (r : Place) (l : List ℕ) : Type 0 where
+pub record OrderOrRing (n : ℕ) (next : ℕ → ℕ) (r : (Option ℕ)) (l : List ℕ) : Type 0 where
   pub ring : r ≡ place_in (lowest n (on_ring n next))
-  pub ordered : r ≡ Nowhere → OrderedBy n next l
+  pub ordered : r ≡ None → OrderedBy n next l

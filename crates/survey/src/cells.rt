@@ -5,7 +5,7 @@ ghost use Rattle.survey.specs.Cells.{slot_by, slot_at, IndexFits, way_from, way_
 use crate::order::{none_waiting, wait_for};
 use crate::ways::{OPEN_WATER, way};
 use covers::{CODES, ENTRY_NUMBERS, MOST_SLOTS, OPEN_FLAG, small_index};
-use records::{MOST_CELLS, Place, index_of};
+use records::{MOST_CELLS, index_of};
 
 // Past every slot.
 const NO_SLOT: usize = MOST_SLOTS;
@@ -59,7 +59,7 @@ pub(crate) fn lay_cells(
     slots: &mut [u8],
     ways: &mut [u32],
     order: &mut [u32; MOST_CELLS],
-) -> Place
+) -> Option<usize>
     requires { Layable width height index.now covers.now direction.now cover.now group.now available.now
         slots.old ways.old }
     ensures { LaidOrBad (width * height)
@@ -76,7 +76,7 @@ pub(crate) fn lay_cells(
     while i < n {
         let found = slot(index, cover[i], group[i], available[i]);
         if found == NO_SLOT {
-            return Place::At(i);
+            return Some(i);
         }
         slots[i] = found as u8;
         let lake = covers[ENTRY_NUMBERS * (found / 4) + OPEN_FLAG];
@@ -90,5 +90,5 @@ pub(crate) fn lay_cells(
         }
         i += 1;
     }
-    Place::Nowhere
+    None
 }

@@ -9,7 +9,7 @@ use crate::cells::lay_cells;
 use crate::order::put_in_order;
 use crate::ways::CLOSED;
 use covers::{CODES, read_covers};
-use records::{Climate, Grid, MOST_CELLS, Place, Refusal, Verdict, setup_each};
+use records::{Climate, Grid, MOST_CELLS, Refusal, one_each};
 
 // Tests 3 to 6, for a grid within its limits and one entry a cell.
 fn chart(
@@ -23,16 +23,13 @@ fn chart(
     slots: &mut [u8; MOST_CELLS],
     ways: &mut [u32; MOST_CELLS],
     order: &mut [u32; MOST_CELLS],
-) -> Verdict
+) -> Result<(), Refusal>
     requires { Surveyable (setup_as grid climate covers.now direction.now cover.now group.now available.now) }
     ensures { Chart (setup_as grid climate covers.now direction.now cover.now group.now available.now)
         slots.old ways.old result slots.new ways.new order.new }
 {
     let mut index = [0u8; CODES];
-    let table = read_covers(covers, &mut index);
-    let Verdict::Accepted = table else {
-        return table;
-    };
+    read_covers(covers, &mut index)?;
     let cell = lay_cells(
         grid.width,
         grid.height,
@@ -46,17 +43,17 @@ fn chart(
         ways,
         order,
     );
-    if let Place::At(i) = cell {
-        return Verdict::Refused(Refusal::CellNumbers(i));
+    if let Some(i) = cell {
+        return Err(Refusal::CellNumbers(i));
     }
     let ring = put_in_order(direction.len(), ways, order);
-    if let Place::At(i) = ring {
-        return Verdict::Refused(Refusal::Ring(i));
+    if let Some(i) = ring {
+        return Err(Refusal::Ring(i));
     }
     if !climate.fits() {
-        return Verdict::Refused(Refusal::Climate);
+        return Err(Refusal::Climate);
     }
-    Verdict::Accepted
+    Ok(())
 }
 
 // Arrays that hold nothing, as a survey that refuses leaves them.
@@ -81,31 +78,25 @@ pub fn survey(
     slots: &mut [u8; MOST_CELLS],
     ways: &mut [u32; MOST_CELLS],
     order: &mut [u32; MOST_CELLS],
-) -> Verdict
+) -> Result<(), Refusal>
     ensures { Surveyed (setup_as grid climate covers.now direction.now cover.now group.now available.now)
         slots.old ways.old result slots.new ways.new order.new }
 {
     if !grid.fits() {
         wipe(slots, ways, order);
-        return Verdict::Refused(Refusal::Grid);
+        return Err(Refusal::Grid);
     }
-    if !setup_each(
-        grid.cells(),
-        direction.len(),
-        cover.len(),
-        group.len(),
-        available.len(),
-    ) {
+    let lengths = [direction.len(), cover.len(), group.len(), available.len()];
+    if !one_each(grid.cells(), &lengths) {
         wipe(slots, ways, order);
-        return Verdict::Refused(Refusal::Lent);
+        return Err(Refusal::Lent);
     }
     let verdict = chart(
         grid, climate, covers, direction, cover, group, available, slots, ways, order,
     );
-    let Verdict::Accepted = verdict else {
+    if verdict.is_err() {
         wipe(slots, ways, order);
-        return verdict;
-    };
+    }
     verdict
 }
 
@@ -118,7 +109,7 @@ pub fn check(
     cover: &[u32],
     group: &[u32],
     available: &[u32],
-) -> Verdict
+) -> Result<(), Refusal>
     ensures { result ≡ verdict_in (check_of
         (setup_as grid climate covers.now direction.now cover.now group.now available.now)) }
 {

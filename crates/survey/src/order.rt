@@ -7,7 +7,7 @@ ghost use Rattle.survey.specs.Charts.{next_as, WaysFit};
 ghost use Rattle.survey.specs.Order.{OrderOrRing, waits, wait_for, Counted, Blank, GatheredHeld, PeeledHeld};
 ghost use Rattle.records.specs.Places.{place_in};
 
-use records::{MOST_CELLS, Place, index_of};
+use records::{MOST_CELLS, index_of};
 
 // One cell to wait for: past every number of a cell.
 const ONE: u32 = 8192;
@@ -85,18 +85,18 @@ fn peel(n: usize, ways: &[u32; MOST_CELLS], order: &mut [u32; MOST_CELLS], sourc
 }
 
 // The lowest cell that waits for another.
-fn leftover(n: usize, order: &[u32; MOST_CELLS]) -> Place
+fn leftover(n: usize, order: &[u32; MOST_CELLS]) -> Option<usize>
     requires { n ≤ 4096 }
     ensures { result ≡ place_in (lowest n (λ i. ltb 0 (waits order.now i))) }
 {
     let mut i = 0;
     while i < n {
         if ONE <= order[i] {
-            return Place::At(i);
+            return Some(i);
         }
         i += 1;
     }
-    Place::Nowhere
+    None
 }
 
 // The array holds how many cells lead to each, and then the order.
@@ -104,7 +104,7 @@ pub(crate) fn put_in_order(
     n: usize,
     ways: &[u32; MOST_CELLS],
     order: &mut [u32; MOST_CELLS],
-) -> Place
+) -> Option<usize>
     requires { (WaysFit n ways.now) × (Counted n (next_as n ways.now) n order.old) }
     ensures { OrderOrRing n (next_as n ways.now) result order.new }
 {
@@ -113,5 +113,5 @@ pub(crate) fn put_in_order(
     if taken < n {
         return leftover(n, order);
     }
-    Place::Nowhere
+    None
 }

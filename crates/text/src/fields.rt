@@ -8,10 +8,7 @@ ghost use Rattle.text.specs.Laying.{grid_in, climate_in, held, degrees, day_from
 
 use covers::ENTRY_NUMBERS;
 use lines::{NEGATIVES, NO_NUMBER};
-use records::{
-    Climate, DayRecord, Depth, FrostIndex, Grid, MOST_CELLS, Season, Setpoints, TenthF, index_of,
-    wide,
-};
+use records::{Climate, DayRecord, Depth, FrostIndex, Grid, MOST_CELLS, Season, Setpoints, TenthF, index_of, wide};
 
 // The numbers before the cover table: width, height, first, last and the count of covers.
 pub const FRONT_NUMBERS: usize = 5;

@@ -10,7 +10,7 @@ use crate::fields::{
 };
 use crate::taking::Layout;
 use lines::refusal;
-use records::{MOST_CELLS, Verdict};
+use records::{MOST_CELLS};
 
 // The fresh state, and the days from it on; or its refusal.
 fn begun(
@@ -35,8 +35,8 @@ fn begun(
     );
     let verdict = start.verdict;
     match verdict {
-        Verdict::Refused(why) => refusal(output, 0, why),
-        Verdict::Accepted => {
+        Err(why) => refusal(output, 0, why),
+        Ok(()) => {
             let past = start.past;
             days(
                 numbers, layout, grid, climate, covers, direction, cover, group, water, soil, snow,

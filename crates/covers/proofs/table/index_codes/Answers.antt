@@ -7,7 +7,7 @@ use Rattle.covers.proofs.table.index_codes.Goals.{After-index_of-code}
 use Rattle.covers.proofs.table.index_codes.Goals as goal
 
 pub loop-e-init : goal.loop-e-init
-loop-e-init c = (search rules, search rules, index_none _ c.requires.0 _ c.requires.1)
+loop-e-init c = index_none _ c.requires.0 _ c.requires.1
 
 pub overflow_cast-index : goal.overflow_cast-index
 unfolding entries
@@ -23,15 +23,12 @@ bounds-index-code c = rw c.index_of-code.ensures (code_small (goal.at.bounds-ind
 
 pub loop-e-preserved : goal.loop-e-preserved
 unfolding entries
-loop-e-preserved c = (
-  search rules,
-  search rules,
-  rw (c.index_of-code.ensures, add-one c.loop-e.e, c.loop-e.invariant.2)
-      (index_more _ c.requires.0 _ c.loop-e-test.true),
-)
+loop-e-preserved c =
+    rw (c.index_of-code.ensures, add-one c.loop-e.e, c.loop-e.invariant)
+    (index_more _ c.requires.0 _ c.loop-e-test.true)
 
 pub returns : goal.returns
 unfolding entries
 returns c =
     let e : c.loop-e.e ≡ length c.args.covers.now / 16 = omega arith in
-    c.loop-e.invariant.2 ∙ ap (index_of c.args.covers.now) e
+    c.loop-e.invariant ∙ ap (index_of c.args.covers.now) e

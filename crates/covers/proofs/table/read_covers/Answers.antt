@@ -10,11 +10,11 @@ use Rattle.covers.proofs.table.read_covers.Goals as goal
 pub returns-then-not-size_fits : goal.returns-then-not-size_fits
 returns-then-not-size_fits c = refused_table _ _ (cover_table 0) (size_bad _ (sym c.size_fits.ensures ∙ c.if-not-size_fits.true))
 
-pub returns-in-At : goal.returns-in-At
-returns-in-At c =
+pub returns-in-Some : goal.returns-in-Some
+returns-in-Some c =
     refused_table _ _ (cover_table _)
     (entry_bad _ (sym c.size_fits.ensures ∙ c.if-not-size_fits.false) _
-    (found_at _ _ (sym c.in-At.is ∙ c.bad_entry-entry.ensures)))
+    (found_at _ _ (sym c.in-Some.is ∙ c.bad_entry-entry.ensures)))
 
 -- the size fits, and no entry has a fault
 size : (c : goal.After-bad_entry-entry) → size_fits c.args.covers.now ≡ true

@@ -17,7 +17,7 @@ use Rattle.admission.proofs.TestLaws.{two_each}
 use Rattle.stores.proofs.StateLaws.{few_cells}
 use Rattle.reasons.proofs.WhyLaws.{five, zeros_room, zeros_each, why_grid, why_lent, why_refused, why_told, day_accepted, cell_lent, left_is}
 use Rattle.records.specs.declared.grids.Grid.{Grid}
-use Rattle.records.specs.declared.verdicts.Verdict.TheVariants.{Accepted}
+use Rattle.std.specs.Prelude.{Ok}
 use Rattle.reasons.proofs.asking.why.Goals.{After-copied-lying, After-asked}
 use Rattle.reasons.proofs.asking.why.Goals as goal
 
@@ -97,7 +97,7 @@ module _ (c : goal.After-asked) where
   asked_is = c.asked.ensures ∙ ap (λ (o : Outcome). asked_of (cells_of (grid_as c.args.grid)) c.args.cell o.verdict) outcome
 
   -- where it accepts, the cell is in the grid
-  module _ (taken : c.asked.result ≡ Accepted) where
+  module _ (taken : c.asked.result ≡ (Ok tt)) where
     accepts : asked_of (cells_of (grid_as c.args.grid)) c.args.cell (day_of s st none d).verdict ≡ accepted
     accepts = sym asked_is ∙ ap verdict_as taken
 
@@ -175,10 +175,10 @@ slice_bounds-rejected-end c = fronts (goal.at.slice_bounds-rejected-end c).After
 pub slice_bounds-day-end-7 : goal.slice_bounds-day-end-7
 slice_bounds-day-end-7 c = sym (length-take-le _ _ (fronts (goal.at.slice_bounds-day-end-7 c).After-copied-lying))
 
-pub returns-in-Refused : goal.returns-in-Refused
-returns-in-Refused c =
-    let day = (goal.at.returns-in-Refused c).After-asked in
-    why_refused (s day) (st day) (d day) c.args.cell (none day) (none_each day) _ (sym (asked_is day) ∙ ap verdict_as c.in-Refused.is)
+pub returns-in-Err : goal.returns-in-Err
+returns-in-Err c =
+    let day = (goal.at.returns-in-Err c).After-asked in
+    why_refused (s day) (st day) (d day) c.args.cell (none day) (none_each day) _ (sym (asked_is day) ∙ ap verdict_as c.in-Err.is)
 
 pub left_at-left-requires : goal.left_at-left-requires
 left_at-left-requires c = small (goal.at.left_at-left-requires c).After-asked c.in_default.is

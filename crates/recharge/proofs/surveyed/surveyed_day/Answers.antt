@@ -20,7 +20,7 @@ use Rattle.recharge.specs.Downhill.{slices_of}
 use Rattle.recharge.specs.Surveyed.{DayReady}
 use Rattle.recharge.proofs.AnswerLaws.{ready, accepted_answer, refused_answer}
 use Rattle.recharge.proofs.SurveyedLaws as laws
-use Rattle.records.specs.declared.verdicts.Verdict.TheVariants.{Accepted}
+use Rattle.std.specs.Prelude.{Ok}
 use Rattle.recharge.proofs.surveyed.surveyed_day.Goals.{After-day_verdict-verdict}
 use Rattle.recharge.proofs.surveyed.surveyed_day.Goals as goal
 
@@ -49,7 +49,7 @@ module _ (direction cover group : List ℕ) (c : goal.After-day_verdict-verdict)
         (replicate 1536 0) c.day_verdict-verdict.new.plots c.day_verdict-verdict.ensures.0 _ c.day_verdict-verdict.ensures.1
 
     -- an accepted day passed all the tests
-    module _ (accepts : c.day_verdict-verdict.result ≡ Accepted) where
+    module _ (accepts : c.day_verdict-verdict.result ≡ (Ok tt)) where
       passed : verdict_of setup (state c) (results c) (date c) ≡ accepted
       passed = accepted_back _ (sym accepts ∙ told)
 
@@ -67,7 +67,7 @@ returns-in_default c =
           λ direction cover group ok.
           refused_answer (setup direction cover group s) (state s) (results s) (date s) _ _ _ _
           c.refused.ensures.0 c.refused.ensures.1 (ap (state_as c.args.soil.now c.args.snow.now) c.refused.ensures.2)
-          (told direction cover group s ok) c.in_default.not-Accepted;
+          (told direction cover group s ok) c.in_default.not-(Ok tt);
     }
 
 pub downhill-totals-requires : goal.downhill-totals-requires
@@ -77,8 +77,8 @@ downhill-totals-requires c =
     let ok = some.ready in
     ready (setup some.direction some.cover some.group s) (state s) (results s) (date s) ok.slots₀ ok.ways₀ c.args.slots.now c.args.ways.now
     c.args.order.now (weathered s) (replicate 1536 0) c.day_verdict-verdict.new.plots
-    (sound some.direction some.cover some.group s ok c.in-Accepted.is) ok.mapped
-    (weather some.direction some.cover some.group s ok c.in-Accepted.is) c.day_verdict-verdict.ensures.0
+    (sound some.direction some.cover some.group s ok c.in-(Ok tt).is) ok.mapped
+    (weather some.direction some.cover some.group s ok c.in-(Ok tt).is) c.day_verdict-verdict.ensures.0
 
 pub returns : goal.returns
 returns c =
@@ -88,8 +88,8 @@ returns c =
       is =
           λ direction cover group ok.
           accepted_answer (setup direction cover group s) (state s) (results s) (date s) ok.slots₀ ok.ways₀ c.args.slots.now c.args.ways.now
-          c.args.order.now (weathered s) (replicate 1536 0) c.day_verdict-verdict.new.plots (sound direction cover group s ok c.in-Accepted.is) ok.mapped
-          (weather direction cover group s ok c.in-Accepted.is) c.day_verdict-verdict.ensures.0 (passed direction cover group s ok c.in-Accepted.is) _ c.accepted.ensures.0 _
+          c.args.order.now (weathered s) (replicate 1536 0) c.day_verdict-verdict.new.plots (sound direction cover group s ok c.in-(Ok tt).is) ok.mapped
+          (weather direction cover group s ok c.in-(Ok tt).is) c.day_verdict-verdict.ensures.0 (passed direction cover group s ok c.in-(Ok tt).is) _ c.accepted.ensures.0 _
           (ap past_as c.accepted.ensures.2 ∙ c.after.ensures) _ _ c.accepted.ensures.1
           (slices_of new.soil new.snow new.intercepted new.outflow new.evapotranspired new.recharged new.rejected) c.downhill-totals.ensures;
     }

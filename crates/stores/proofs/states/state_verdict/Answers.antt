@@ -5,7 +5,7 @@ use Rattle.paper.specs.Refusals.{one_each}
 use Rattle.records.specs.Grids.{grid_as}
 use Rattle.records.specs.Verdicts.{verdict_in}
 use Rattle.records.specs.declared.verdicts.Refusal.TheVariants as refusals
-use Rattle.records.specs.declared.verdicts.Verdict.TheVariants.{Refused}
+use Rattle.std.specs.Prelude.{Err}
 use Rattle.records.proofs.PlaceLaws.{found_at, found_no}
 use Rattle.stores.proofs.StateLaws.{few_cells, three_each, grid_bad, lent_bad, store_bad, past_bad, state_good}
 use Rattle.stores.proofs.states.state_verdict.Goals.{After-stores_each, Else-not-available-n, Else-not-fits, Start}
@@ -41,14 +41,14 @@ bad_store-store-requires c =
     let all = three_each _ _ _ _ (each (goal.at.bad_store-store-requires c).Else-not-available-n) in
     (omega (arith, few, all.0), all.1 ∙ sym all.0, all.2 ∙ sym all.0)
 
-pub returns-in-At : goal.returns-in-At
-returns-in-At c =
-    sym (ap verdict_in (store_bad _ _ _ _ _ _ _ (fits (goal.at.returns-in-At c).Else-not-fits) (each (goal.at.returns-in-At c).Else-not-available-n) _
-    (found_at _ _ (sym c.in-At.is ∙ c.bad_store-store.ensures))))
+pub returns-in-Some : goal.returns-in-Some
+returns-in-Some c =
+    sym (ap verdict_in (store_bad _ _ _ _ _ _ _ (fits (goal.at.returns-in-Some c).Else-not-fits) (each (goal.at.returns-in-Some c).Else-not-available-n) _
+    (found_at _ _ (sym c.in-Some.is ∙ c.bad_store-store.ensures))))
 
 pub returns-then-not-fits-2 : goal.returns-then-not-fits-2
 returns-then-not-fits-2 c =
-    ap (λ (n : ℕ). Refused (refusals.StateAt n)) c.cells-n.ensures
+    ap (λ (n : ℕ). Err (refusals.StateAt n)) c.cells-n.ensures
     ∙ sym (ap verdict_in (past_bad _ _ _ _ _ _ _ (fits (goal.at.returns-then-not-fits-2 c).Else-not-fits) (each (goal.at.returns-then-not-fits-2 c).Else-not-available-n)
     (found_no _ (sym c.in_default.is ∙ c.bad_store-store.ensures)) (sym c.fits-2.ensures ∙ c.if-not-fits-2.true)))
 

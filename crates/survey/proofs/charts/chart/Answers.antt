@@ -29,13 +29,13 @@ lay_cells-cell-requires c =
     lay_ask (setup (goal.at.lay_cells-cell-requires c).Start) _ _ c.requires (table (goal.at.lay_cells-cell-requires c).In-Accepted) _ (c.read_covers-table.ensures.indexed (table (goal.at.lay_cells-cell-requires c).In-Accepted))
     slots_sized ways_sized
 
-pub returns-in-At : goal.returns-in-At
-returns-in-At c =
+pub returns-in-Some : goal.returns-in-Some
+returns-in-Some c =
     let slots_sized : length c.args.slots.now ≡ 4096 = search rules in
     let ways_sized : length c.args.ways.now ≡ 4096 = search rules in
-    cell_refuses (setup (goal.at.returns-in-At c).Start) _ _ c.requires (table (goal.at.returns-in-At c).In-Accepted) _ (c.read_covers-table.ensures.indexed (table (goal.at.returns-in-At c).In-Accepted))
+    cell_refuses (setup (goal.at.returns-in-Some c).Start) _ _ c.requires (table (goal.at.returns-in-Some c).In-Accepted) _ (c.read_covers-table.ensures.indexed (table (goal.at.returns-in-Some c).In-Accepted))
     slots_sized ways_sized
-    _ _ _ _ c.lay_cells-cell.ensures _ _ c.in-At.is
+    _ _ _ _ c.lay_cells-cell.ensures _ _ c.in-Some.is
 
 pub put_in_order-ring-requires : goal.put_in_order-ring-requires
 put_in_order-ring-requires c =
@@ -45,11 +45,11 @@ put_in_order-ring-requires c =
     slots_sized ways_sized
     _ _ _ _ c.lay_cells-cell.ensures c.in_default-cell.is
 
-pub returns-in-At-ring : goal.returns-in-At-ring
-returns-in-At-ring c =
+pub returns-in-Some-ring : goal.returns-in-Some-ring
+returns-in-Some-ring c =
     let slots_sized : length c.args.slots.now ≡ 4096 = search rules in
     let ways_sized : length c.args.ways.now ≡ 4096 = search rules in
-    ring_refuses (setup (goal.at.returns-in-At-ring c).Start) _ _ c.requires (table (goal.at.returns-in-At-ring c).In-Accepted) _ (c.read_covers-table.ensures.indexed (table (goal.at.returns-in-At-ring c).In-Accepted))
+    ring_refuses (setup (goal.at.returns-in-Some-ring c).Start) _ _ c.requires (table (goal.at.returns-in-Some-ring c).In-Accepted) _ (c.read_covers-table.ensures.indexed (table (goal.at.returns-in-Some-ring c).In-Accepted))
     slots_sized ways_sized
     _ _ _ _ c.lay_cells-cell.ensures c.in_default-cell.is _ _ c.put_in_order-ring.ensures _ c.in-At-ring.is
 
