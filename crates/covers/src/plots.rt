@@ -104,12 +104,9 @@ fn lay(today: Today, covers: &[u32], plots: &mut [u32])
     ensures { plots.new ≡ made_over (6 * min (length plots.old / 6) (4 * entries covers.now))
         (plot_number (today_as today) covers.now) plots.old }
 {
-    let mut slots = 4 * (covers.len() / ENTRY_NUMBERS);
-    if plots.len() / PLOT_NUMBERS < slots {
-        slots = plots.len() / PLOT_NUMBERS;
-    }
-    let mut slot = 0;
-    while slot < slots {
+    let slots = 4 * (covers.len() / ENTRY_NUMBERS);
+    let room = plots.len() / PLOT_NUMBERS;
+    for slot in 0..room.min(slots) {
         let cover = slot_day(today, covers, slot);
         let at = PLOT_NUMBERS * slot;
         plots[at + INTERCEPTED] = cover.intercepted;
@@ -118,7 +115,6 @@ fn lay(today: Today, covers: &[u32], plots: &mut [u32])
         plots[at + CURVE_NUMBER] = cover.curve_number;
         plots[at + ROOT_DEPTH] = cover.root_depth;
         plots[at + LARGEST_RECHARGE] = cover.largest_recharge;
-        slot += 1;
     }
 }
 

@@ -9,8 +9,6 @@ use crate::table::{ENTRY_NUMBERS, MOST_ENTRIES, OPEN_FLAG, ROOT_DEPTHS};
 // Four slots an entry.
 pub const MOST_SLOTS: usize = 4 * MOST_ENTRIES;
 
-const MOST_NUMBERS: usize = ENTRY_NUMBERS * MOST_ENTRIES;
-
 // Open water has no soil: no roots, and no recharge.
 const NO_SOIL: u32 = 0;
 
@@ -59,18 +57,14 @@ pub fn root_depths(covers: &[u32]) -> [u32; MOST_SLOTS]
     ensures { result ≡ made 256 (group_number_at covers.now 11) }
 {
     let mut roots = [0u32; MOST_SLOTS];
-    let mut slots = MOST_SLOTS;
-    if covers.len() < MOST_NUMBERS {
-        slots = 4 * ((covers.len() + (ENTRY_NUMBERS - 1)) / ENTRY_NUMBERS);
-    }
-    let mut slot = 0;
-    while slot < slots {
+    let begun = (covers.len() + (ENTRY_NUMBERS - 1)) / ENTRY_NUMBERS;
+    for entry in 0..begun.min(MOST_ENTRIES) {
+        let slot = 4 * entry;
         let lake = is_open(covers, slot);
         roots[slot] = soil_number(covers, lake, slot, ROOT_DEPTHS + 1);
         roots[slot + 1] = soil_number(covers, lake, slot, ROOT_DEPTHS + 2);
         roots[slot + 2] = soil_number(covers, lake, slot, ROOT_DEPTHS + 3);
         roots[slot + 3] = soil_number(covers, lake, slot, ROOT_DEPTHS + 4);
-        slot += 4;
     }
     roots
 }

@@ -1,40 +1,26 @@
--- `slots::root_depths` meets its contract: the slots below the loop's have their numbers, four at a time, and past those of which the table has a number all are 0.
-use Rattle.std.proofs.Common.{◌≡◌, sym, ◌∙◌, ◌+◌, ◌≤◌, arith, rules}
+-- `slots::root_depths` meets its contract: the slots of the entries before the loop's have their numbers, and past those of which the table has a number all are 0.
+use Rattle.std.proofs.Common.{◌≡◌, sym, ◌∙◌, ◌+◌, ◌*◌, ◌≤◌, arith, replicate, ap}
+use Rattle.theory.specs.Lists.{made_over}
 use Rattle.theory.proofs.ListLaws.{over_none}
+use Rattle.covers.specs.Slots.{group_number_at}
 use Rattle.covers.proofs.SlotLaws.{roots_four, roots_whole}
-use Rattle.covers.proofs.slots.root_depths.Goals.{After-soil_number-in-loop-slot-3, then-covers-lt-MOST_NUMBERS, else-covers-lt-MOST_NUMBERS}
 use Rattle.covers.proofs.slots.root_depths.Goals as goal
 
-pub loop-slot-init : goal.loop-slot-init
-loop-slot-init c = (
-  elim c.if-covers-lt-MOST_NUMBERS.branch [ then-covers-lt-MOST_NUMBERS w ↦ omega arith | else-covers-lt-MOST_NUMBERS w ↦ omega arith ],
-  elim c.if-covers-lt-MOST_NUMBERS.branch [ then-covers-lt-MOST_NUMBERS w ↦ omega arith | else-covers-lt-MOST_NUMBERS w ↦ omega arith ],
-  elim c.if-covers-lt-MOST_NUMBERS.branch [ then-covers-lt-MOST_NUMBERS w ↦ omega arith | else-covers-lt-MOST_NUMBERS w ↦ omega arith ],
-  search rules,
-  search rules,
-  sym (over_none _ _),
-)
+pub loop-entry-init : goal.loop-entry-init
+loop-entry-init c = sym (over_none _ _)
 
--- a whole entry is left
-room : (c : goal.After-soil_number-in-loop-slot-3) → c.loop-slot.slot + 4 ≤ c.if-covers-lt-MOST_NUMBERS.slots
-room c =
-    let l = c.loop-slot in omega (arith, l.invariant.1, l.invariant.4, c.loop-slot-test.true)
-
-pub loop-slot-preserved : goal.loop-slot-preserved
-loop-slot-preserved c =
-    let l = c.loop-slot in
-    let lake = c.is_open-lake in (
-      l.invariant.0,
-      l.invariant.1,
-      l.invariant.2,
-      room (goal.at.loop-slot-preserved c).After-soil_number-in-loop-slot-3,
-      search rules,
-      roots_four _ _ _ lake.ensures l.invariant.4 (omega (arith, room (goal.at.loop-slot-preserved c).After-soil_number-in-loop-slot-3, l.invariant.0)) _ _ _ _ _ l.invariant.5 c.soil_number.ensures
-          c.soil_number-in-loop-slot.ensures c.soil_number-in-loop-slot-2.ensures c.soil_number-in-loop-slot-3.ensures,
-    )
+pub loop-entry-preserved : goal.loop-entry-preserved
+loop-entry-preserved c =
+    let l = c.loop-entry in
+    let room : 4 * l.entry + 4 ≤ 256 = omega (arith, c.min-entry-end.ensures, c.loop-entry-test.true) in
+    let next : 4 * l.entry + 4 ≡ 4 * (l.entry + 1) = omega arith in
+    roots_four _ _ (4 * l.entry) c.is_open-lake.ensures (omega arith) room _ _ _ _ _ l.invariant c.soil_number.ensures
+    c.soil_number-in-loop-entry.ensures c.soil_number-in-loop-entry-2.ensures c.soil_number-in-loop-entry-3.ensures
+    ∙ ap (λ n. made_over n (group_number_at c.args.covers.now 11) (replicate 256 0)) next
 
 pub returns : goal.returns
 returns c =
-    let l = c.loop-slot in
-    let all : l.slot ≡ c.if-covers-lt-MOST_NUMBERS.slots = omega arith in
-    l.invariant.5 ∙ rw all (roots_whole _ _ l.invariant.0 l.invariant.1 l.invariant.2)
+    let l = c.loop-entry in
+    let past = c.loop-entry-test.false in
+    let near = l.auto.entry-end in
+    l.invariant ∙ roots_whole _ _ (omega (arith, c.min-entry-end.ensures, near)) (omega arith) (omega (arith, c.min-entry-end.ensures, past, near))
