@@ -15,7 +15,7 @@ use Rattle.paper.specs.Refusals.{Refusal, grid, lent, day_record, serial_gap, Ve
 use Rattle.paper.specs.Day.{check_of}
 use Rattle.paper.proofs.RefusalLaws.{pass_single, fail_single, accepted_then, refused_then}
 use Rattle.records.specs.Verdicts.{verdict_in}
-use Rattle.records.specs.declared.verdicts.Verdict as code
+use Rattle.records.specs.Verdicts as code
 use Rattle.std.specs.Prelude.{Ok}
 use Rattle.weather.specs.Today.{weather_of}
 use Rattle.weather.proofs.TodayLaws.{day_known, today_fits}

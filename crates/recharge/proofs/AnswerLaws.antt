@@ -27,7 +27,7 @@ use Rattle.paper.proofs.SetupLaws.{Charted, SoundCell, sound_cell, closed_by_lem
 use Rattle.paper.proofs.SnowLaws.{melt_most}
 use Rattle.survey.specs.Charts.{slot_of, next_as, Mapped}
 use Rattle.records.specs.Verdicts.{verdict_as, verdict_in}
-use Rattle.records.specs.declared.verdicts.Verdict as code
+use Rattle.records.specs.Verdicts as code
 use Rattle.std.specs.Prelude.{Ok}
 use Rattle.records.specs.declared.answers.Totals.{Totals}
 use Rattle.records.proofs.VerdictLaws.{verdict_back}

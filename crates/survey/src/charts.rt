@@ -91,13 +91,15 @@ pub fn survey(
         wipe(slots, ways, order);
         return Err(Refusal::Lent);
     }
-    let verdict = chart(
+    match chart(
         grid, climate, covers, direction, cover, group, available, slots, ways, order,
-    );
-    if verdict.is_err() {
-        wipe(slots, ways, order);
+    ) {
+        Ok(()) => Ok(()),
+        Err(why) => {
+            wipe(slots, ways, order);
+            Err(why)
+        }
     }
-    verdict
 }
 
 // The setup check.

@@ -17,10 +17,8 @@ pub(crate) fn none_waiting(n: usize, order: &mut [u32])
     requires { n ≤ length order.old }
     ensures { order.new ≡ made_over n (λ i. 0) order.old }
 {
-    let mut i = 0;
-    while i < n {
+    for i in 0..n {
         order[i] = 0;
-        i += 1;
     }
 }
 
@@ -41,13 +39,11 @@ fn sources(n: usize, order: &mut [u32; MOST_CELLS]) -> usize
     ensures { GatheredHeld n (waits order.old) n result order.new }
 {
     let mut tail = 0;
-    let mut i = 0;
-    while i < n {
+    for i in 0..n {
         if order[i] < ONE {
             order[tail] += i as u32;
             tail += 1;
         }
-        i += 1;
     }
     tail
 }
@@ -60,8 +56,7 @@ fn peel(n: usize, ways: &[u32; MOST_CELLS], order: &mut [u32; MOST_CELLS], sourc
     ensures { PeeledHeld n (next_as n ways.now) sources sources result order.new }
 {
     let mut tail = sources;
-    let mut head = 0;
-    while head < sources {
+    for head in 0..sources {
         let cell = index_of(order[head] % ONE);
         let mut way = ways[cell];
         loop {
@@ -79,7 +74,6 @@ fn peel(n: usize, ways: &[u32; MOST_CELLS], order: &mut [u32; MOST_CELLS], sourc
             tail += 1;
             way = onward;
         }
-        head += 1;
     }
     tail
 }
@@ -89,12 +83,10 @@ fn leftover(n: usize, order: &[u32; MOST_CELLS]) -> Option<usize>
     requires { n ≤ 4096 }
     ensures { result ≡ place_in (lowest n (λ i. ltb 0 (waits order.now i))) }
 {
-    let mut i = 0;
-    while i < n {
+    for i in 0..n {
         if ONE <= order[i] {
             return Some(i);
         }
-        i += 1;
     }
     None
 }

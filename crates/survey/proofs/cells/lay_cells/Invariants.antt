@@ -5,8 +5,4 @@ use Rattle.survey.proofs.cells.lay_cells.Given as goal
 
 abbrev pub invariant-loop-i : goal.invariant-loop-i
 invariant-loop-i l =
-    (l.n ≡ l.width * l.height)
-    × Laid l.width l.height l.covers l.direction (slot_at l.index l.cover l.group l.available) l.initial.slots l.initial.ways l.slots l.ways l.order l.row l.column l.i
-
-abbrev pub decreases-loop-i : goal.decreases-loop-i
-decreases-loop-i l = l.n - l.i
+    Laid l.width l.height l.covers l.direction (slot_at l.index l.cover l.group l.available) l.initial.slots l.initial.ways l.slots l.ways l.order l.row l.column l.i

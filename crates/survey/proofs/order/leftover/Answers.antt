@@ -6,7 +6,7 @@ use Rattle.survey.specs.Order.{waits}
 use Rattle.survey.proofs.order.leftover.Goals as goal
 
 pub loop-i-init : goal.loop-i-init
-loop-i-init c = (search rules, below_none _)
+loop-i-init c = below_none _
 
 pub returns-then-order-i-ge-ONE : goal.returns-then-order-i-ge-ONE
 unfolding waits place_in
@@ -14,16 +14,16 @@ returns-then-order-i-ge-ONE c = let l = c.args.order.now in
     let i = c.loop-i.i in
     let one : ltb 0 (waits l i) ≡ true = lt-ltb 0 (waits l i) (omega arith) in
     let n = c.args.n in
-    sym (ap place_in (at_lowest n (λ i. ltb 0 (waits l i)) i (search rules) one c.loop-i.invariant.1))
+    sym (ap place_in (at_lowest n (λ i. ltb 0 (waits l i)) i (search rules) one c.loop-i.invariant))
 
 pub loop-i-preserved : goal.loop-i-preserved
 unfolding waits
 loop-i-preserved c = let l = c.args.order.now in
     let i = c.loop-i.i in
     let none : ltb 0 (waits l i) ≡ false = le-ltb 0 (waits l i) (omega arith) in
-    (search rules, below_more _ _ c.loop-i.invariant.1 none)
+    below_more _ _ c.loop-i.invariant none
 
 pub returns : goal.returns
 unfolding place_in
 returns c = let l = c.args.order.now in
-    sym (ap place_in (none_lowest c.args.n (λ i. ltb 0 (waits l i)) (λ j h. c.loop-i.invariant.1 j (omega arith))))
+    sym (ap place_in (none_lowest c.args.n (λ i. ltb 0 (waits l i)) (λ j h. c.loop-i.invariant j (omega arith))))

@@ -3,7 +3,4 @@ use Rattle.survey.specs.Order.{waits}
 use Rattle.survey.proofs.order.leftover.Given as goal
 
 abbrev pub invariant-loop-i : goal.invariant-loop-i
-invariant-loop-i l = (l.i ≤ l.n) × ((k : ℕ) → k < l.i → ltb 0 (waits l.order k) ≡ false)
-
-abbrev pub decreases-loop-i : goal.decreases-loop-i
-decreases-loop-i l = l.n - l.i
+invariant-loop-i l = (k : ℕ) → k < l.i → ltb 0 (waits l.order k) ≡ false

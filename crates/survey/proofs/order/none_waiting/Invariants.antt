@@ -3,7 +3,4 @@ use Rattle.theory.specs.Lists.{made_over}
 use Rattle.survey.proofs.order.none_waiting.Given as goal
 
 abbrev pub invariant-loop-i : goal.invariant-loop-i
-invariant-loop-i l = (l.i ≤ l.n) × (l.n ≤ length l.initial.order) × (l.order ≡ made_over l.i (λ k. 0) l.initial.order)
-
-abbrev pub decreases-loop-i : goal.decreases-loop-i
-decreases-loop-i l = l.n - l.i
+invariant-loop-i l = l.order ≡ made_over l.i (λ k. 0) l.initial.order

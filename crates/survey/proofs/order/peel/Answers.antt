@@ -18,7 +18,7 @@ source a = a.index_of-cell.ensures
 
 source_inside : (a : goal.After-index_of-cell) → a.index_of-cell.result < a.args.n
 source_inside a =
-    let q = a.loop-head.invariant.1 in
+    let q = a.loop-head.invariant in
     omega (arith, source a, q.kept.queue.placed a.loop-head.head (omega (arith, q.behind)))
 
 source_below : (a : goal.After-index_of-cell) → a.index_of-cell.result < 4096
@@ -30,21 +30,21 @@ most w = w.requires.0.most
 -- the cell in hand leads to j
 abbrev Leads : goal.After-index_of-j → ℕ → Type 0
 Leads w j =
-    InHand w.args.n (next_as w.args.n w.args.ways.now) w.loop-head.head w.args.sources w.loop-j.tail j
-    w.loop-j.order
+    InHand w.args.n (next_as w.args.n w.args.ways.now) w.loop-head.head w.args.sources w.loop-cell.tail j
+    w.loop-cell.order
 
 in_hand : (w : goal.After-index_of-j) → Leads w w.index_of-j.result
-in_hand w = subst (Leads w) (sym w.index_of-j.ensures) w.loop-j.invariant
+in_hand w = subst (Leads w) (sym w.index_of-j.ensures) w.loop-cell.invariant
 
 -- where j is a cell, the queue has room
-room_left : (w : goal.After-index_of-j) → w.index_of-j.result < w.args.n → w.loop-j.tail < w.args.n
+room_left : (w : goal.After-index_of-j) → w.index_of-j.result < w.args.n → w.loop-cell.tail < w.args.n
 room_left w i = hand_room (in_hand w) (most w) i
 
 pub loop-head-init : goal.loop-head-init
-loop-head-init c = (search rules, c.requires.1)
+loop-head-init c = c.requires.1
 
 pub bounds-order-head : goal.bounds-order-head
-bounds-order-head c = let q = c.loop-head.invariant.1 in
+bounds-order-head c = let q = c.loop-head.invariant in
     omega (arith, q.behind, q.kept.queue.short, c.requires.0.most)
 
 pub offset_bounds-ways-cell : goal.offset_bounds-ways-cell
@@ -53,9 +53,9 @@ offset_bounds-ways-cell c = omega (arith, source_below (goal.at.offset_bounds-wa
 pub bounds-ways-cell : goal.bounds-ways-cell
 bounds-ways-cell c = source_below (goal.at.bounds-ways-cell c).After-index_of-cell
 
-pub loop-j-init : goal.loop-j-init
-loop-j-init c = rw (way_next c.requires.0 c.index_of-cell.result (source_inside (goal.at.loop-j-init c).After-index_of-cell), source (goal.at.loop-j-init c).After-index_of-cell)
-    (hand_source c.loop-head.invariant.1 c.loop-head-test.true)
+pub loop-cell-init : goal.loop-cell-init
+loop-cell-init c = rw (way_next c.requires.0 c.index_of-cell.result (source_inside (goal.at.loop-cell-init c).After-index_of-cell), source (goal.at.loop-cell-init c).After-index_of-cell)
+    (hand_source c.loop-head.invariant c.loop-head-test.true)
 
 pub offset_bounds-ways-j : goal.offset_bounds-ways-j
 offset_bounds-ways-j c = omega (arith, most (goal.at.offset_bounds-ways-j c).After-index_of-j)
@@ -72,11 +72,11 @@ bounds-order-j c = omega (arith, most (goal.at.bounds-order-j c).After-index_of-
 pub overflow_sub-left : goal.overflow_sub-left
 overflow_sub-left c = hand_waiting (in_hand (goal.at.overflow_sub-left c).After-index_of-j) (most (goal.at.overflow_sub-left c).After-index_of-j) c.if-n-j.false
 
-pub offset_bounds-order-j-in-loop-j : goal.offset_bounds-order-j-in-loop-j
-offset_bounds-order-j-in-loop-j c = omega (arith, most (goal.at.offset_bounds-order-j-in-loop-j c).After-index_of-j)
+pub offset_bounds-order-j-in-loop-cell : goal.offset_bounds-order-j-in-loop-cell
+offset_bounds-order-j-in-loop-cell c = omega (arith, most (goal.at.offset_bounds-order-j-in-loop-cell c).After-index_of-j)
 
-pub bounds-order-j-in-loop-j : goal.bounds-order-j-in-loop-j
-bounds-order-j-in-loop-j c = omega (arith, most (goal.at.bounds-order-j-in-loop-j c).After-index_of-j)
+pub bounds-order-j-in-loop-cell : goal.bounds-order-j-in-loop-cell
+bounds-order-j-in-loop-cell c = omega (arith, most (goal.at.bounds-order-j-in-loop-cell c).After-index_of-j)
 
 pub offset_bounds-order-tail : goal.offset_bounds-order-tail
 offset_bounds-order-tail c = omega (arith, most (goal.at.offset_bounds-order-tail c).After-index_of-j, room_left (goal.at.offset_bounds-order-tail c).After-index_of-j c.if-n-j.false)
@@ -87,37 +87,35 @@ bounds-order-tail c = omega (arith, most (goal.at.bounds-order-tail c).After-ind
 pub overflow_add-order : goal.overflow_add-order
 overflow_add-order c = record { fits = omega (arith, c.index_of-j.ensures, hand_fits (in_hand (goal.at.overflow_add-order c).After-index_of-j) (most (goal.at.overflow_add-order c).After-index_of-j) c.if-n-j.false) }
 
-pub bounds-order-tail-in-loop-j : goal.bounds-order-tail-in-loop-j
-bounds-order-tail-in-loop-j c = omega (arith, most (goal.at.bounds-order-tail-in-loop-j c).After-index_of-j, room_left (goal.at.bounds-order-tail-in-loop-j c).After-index_of-j c.if-n-j.false)
+pub bounds-order-tail-in-loop-cell : goal.bounds-order-tail-in-loop-cell
+bounds-order-tail-in-loop-cell c = omega (arith, most (goal.at.bounds-order-tail-in-loop-cell c).After-index_of-j, room_left (goal.at.bounds-order-tail-in-loop-cell c).After-index_of-j c.if-n-j.false)
 
 pub overflow_add-tail : goal.overflow_add-tail
 overflow_add-tail c = omega (arith, most (goal.at.overflow_add-tail c).After-index_of-j, room_left (goal.at.overflow_add-tail c).After-index_of-j c.if-n-j.false)
 
-pub loop-j-smaller : goal.loop-j-smaller
-loop-j-smaller c = omega (arith, room_left (goal.at.loop-j-smaller c).After-index_of-j c.if-n-j.false)
+pub loop-cell-smaller : goal.loop-cell-smaller
+loop-cell-smaller c = omega (arith, room_left (goal.at.loop-cell-smaller c).After-index_of-j c.if-n-j.false)
 
-pub loop-j-preserved : goal.loop-j-preserved
-loop-j-preserved c = let s = c.args in
+pub loop-cell-preserved : goal.loop-cell-preserved
+loop-cell-preserved c = let s = c.args in
     let j = c.index_of-j.result in
     let i : j < s.n = c.if-n-j.false in
-    let l = c.loop-j.order in
-    let tail = c.loop-j.tail in
+    let l = c.loop-cell.order in
+    let tail = c.loop-cell.tail in
     let less = set l j (get_or l j 0 - 8192) in
     let joined : ℕ → Type 0 = λ x. InHand s.n (next_as s.n s.ways.now) c.loop-head.head s.sources (tail + 1) (next_as s.n s.ways.now j)
     (set less tail (get_or less tail 0 + x)) in
     rw (way_next c.requires.0 j i)
-    (subst joined c.index_of-j.ensures (hand_joins (in_hand (goal.at.loop-j-preserved c).After-index_of-j) (most (goal.at.loop-j-preserved c).After-index_of-j) i (omega (arith, c.if-left-ge-ONE.false))))
+    (subst joined c.index_of-j.ensures (hand_joins (in_hand (goal.at.loop-cell-preserved c).After-index_of-j) (most (goal.at.loop-cell-preserved c).After-index_of-j) i (omega (arith, c.if-left-ge-ONE.false))))
 
 pub loop-head-preserved : goal.loop-head-preserved
-loop-head-preserved c = (
-  search rules,
-  rw add-one
-      (elim c.if-n-j.branch [
-        | then-n-j b ↦ rw b.order-is (hand_outside (in_hand (goal.at.loop-head-preserved c).After-index_of-j) (most (goal.at.loop-head-preserved c).After-index_of-j) b.if-n-j.true)
-        | else-n-j+then-left-ge-ONE b ↦ rw b.order-is (hand_still (in_hand (goal.at.loop-head-preserved c).After-index_of-j) (most (goal.at.loop-head-preserved c).After-index_of-j) b.if-n-j.false (omega (arith, b.if-left-ge-ONE.true)))
-      ]),
-)
+loop-head-preserved c =
+    rw add-one
+    (elim c.if-n-j.branch [
+      | then-n-j b ↦ rw b.order-is (hand_outside (in_hand (goal.at.loop-head-preserved c).After-index_of-j) (most (goal.at.loop-head-preserved c).After-index_of-j) b.if-n-j.true)
+      | else-n-j+then-left-ge-ONE b ↦ rw b.order-is (hand_still (in_hand (goal.at.loop-head-preserved c).After-index_of-j) (most (goal.at.loop-head-preserved c).After-index_of-j) b.if-n-j.false (omega (arith, b.if-left-ge-ONE.true)))
+    ])
 
 pub returns : goal.returns
-returns c = let all : c.loop-head.head ≡ c.args.sources = omega (arith, c.loop-head.invariant.0) in
-    rw all at c.loop-head.invariant.1
+returns c = let all : c.loop-head.head ≡ c.args.sources = omega arith in
+    rw all at c.loop-head.invariant

@@ -7,20 +7,18 @@ use Rattle.survey.proofs.order.sources.Goals.{then-order-i-lt-ONE, else-order-i-
 use Rattle.survey.proofs.order.sources.Goals as goal
 
 pub loop-i-init : goal.loop-i-init
-loop-i-init c = (search rules, gather_none c.requires)
+loop-i-init c = gather_none c.requires
 
 pub overflow_add-order : goal.overflow_add-order
-overflow_add-order c = record { fits = gather_fits c.loop-i.invariant.1 (search rules) c.requires.most c.requires.few }
+overflow_add-order c = record { fits = gather_fits c.loop-i.invariant (search rules) c.requires.most c.requires.few }
 
 pub loop-i-preserved : goal.loop-i-preserved
 loop-i-preserved c = let n = c.args.n in
-    let counts = waits c.args.order.now in (
-      search rules,
-      elim c.if-order-i-lt-ONE.branch [
-        | then-order-i-lt-ONE w ↦ rw (w.order-is, w.tail-is) (gather_put c.loop-i.invariant.1 (omega arith) c.requires.most w.if-order-i-lt-ONE.true)
-        | else-order-i-lt-ONE w ↦ rw (w.order-is, w.tail-is) (gather_skip c.loop-i.invariant.1 w.if-order-i-lt-ONE.false)
-      ],
-    )
+    let counts = waits c.args.order.now in
+    elim c.if-order-i-lt-ONE.branch [
+      | then-order-i-lt-ONE w ↦ rw (w.order-is, w.tail-is) (gather_put c.loop-i.invariant (omega arith) c.requires.most w.if-order-i-lt-ONE.true)
+      | else-order-i-lt-ONE w ↦ rw (w.order-is, w.tail-is) (gather_skip c.loop-i.invariant w.if-order-i-lt-ONE.false)
+    ]
 
 pub returns : goal.returns
-returns c = let all : c.loop-i.i ≡ c.args.n = omega arith in rw all at c.loop-i.invariant.1
+returns c = let all : c.loop-i.i ≡ c.args.n = omega arith in rw all at c.loop-i.invariant

@@ -3,7 +3,4 @@ use Rattle.survey.specs.Order.{waits, GatheredHeld}
 use Rattle.survey.proofs.order.sources.Given as goal
 
 abbrev pub invariant-loop-i : goal.invariant-loop-i
-invariant-loop-i l = (l.i ≤ l.n) × (GatheredHeld l.n (waits l.initial.order) l.i l.tail l.order)
-
-abbrev pub decreases-loop-i : goal.decreases-loop-i
-decreases-loop-i l = l.n - l.i
+invariant-loop-i l = GatheredHeld l.n (waits l.initial.order) l.i l.tail l.order
