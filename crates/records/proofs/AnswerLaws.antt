@@ -2,17 +2,19 @@
 use mathlib.Core.Path.{◌≡◌, refl, sym, ap, ◌∙◌}
 use mathlib.Core.List.{List}
 use Prim.Native.Nat.{ℕ}
+use native.Mathlib.Omega.{arith}
 use Rattle.paper.specs.State as state
 use Rattle.paper.specs.Day as paper
 use Rattle.records.specs.Past.{last_as, past_as}
-use Rattle.records.specs.Verdicts.{verdict_in}
+use Rattle.paper.specs.Refusals.{accepted, refused}
+use Rattle.paper.specs.Refusals as paper-refusals
+use Rattle.records.specs.Verdicts.{refusal_as, refusal_in}
 use Rattle.records.specs.Answers.{fresh_as, outcome_as}
-use Rattle.std.specs.Prelude.{Option, Some, None}
+use Rattle.std.specs.Prelude.{Option, Some, None, Result, Ok, Err}
 use Rattle.records.specs.declared.past.Past.{Past}
 use Rattle.records.specs.declared.answers.Totals.{Totals}
-use Rattle.records.specs.declared.answers.Answer.{Answer}
-use Rattle.records.specs.declared.answers.Start.{Start}
-use Rattle.records.proofs.VerdictLaws.{verdict_forth}
+use Rattle.records.specs.declared.verdicts.Refusal.{Refusal}
+use Rattle.records.proofs.VerdictLaws.{refusal_forth}
 
 last_in : state.Last → Option ℕ
 last_in state.none = None
@@ -54,20 +56,37 @@ totals_in t =
       stored = record { 0 = t.stored };
     }
 
--- a day's answers that say the same outcome of equal slices
-pub answer_only : (a b : Answer) (soil snow : List ℕ) (results : paper.Results) → outcome_as a soil snow results ≡ outcome_as b soil snow results → a ≡ b
+-- two refusals of the paper that are one, and what no acceptance says
+same_refusal : (why w : Refusal) → refused (refusal_as why) ≡ refused (refusal_as w) → why ≡ w
+same_refusal why w e =
+    let same : refusal_as why ≡ refusal_as w = cc in
+    sym (refusal_forth why) ∙ ap refusal_in same ∙ refusal_forth w
+
+apart : (why : paper-refusals.Refusal) → accepted ≡ refused why → ⊥
+apart why e = absurd (let z : ◌≡◌ {A = ℕ} 0 1 = cc in omega arith)
+
+-- a day's answers, and the pasts that they leave, that say the same outcome of equal slices
+pub answer_only :
+    (a b : Result Totals Refusal) (p q : Past) (soil snow : List ℕ) (results : paper.Results) → outcome_as a soil snow p results ≡ outcome_as b soil snow q results
+    → (a ≡ b) × (p ≡ q)
 unfolding totals_in
-answer_only a b soil snow results e =
-    λ k. record {
-      verdict = (sym (verdict_forth a.verdict) ∙ ap (λ (o : paper.Outcome). verdict_in o.verdict) e ∙ verdict_forth b.verdict) k;
-      totals = ap (λ (o : paper.Outcome). totals_in o.totals) e k;
-      past = (sym (past_forth a.past) ∙ ap (λ (o : paper.Outcome). past_in o.state.past) e ∙ past_forth b.past) k;
-    }
+answer_only a b p q soil snow results e = (same a b e, left a b e)
+  where
+    same : (a b : Result Totals Refusal) → outcome_as a soil snow p results ≡ outcome_as b soil snow q results → a ≡ b
+    same (Ok t) (Ok u) e = ap Ok (ap (λ (o : paper.Outcome). totals_in o.totals) e)
+    same (Ok t) (Err w) e = absurd (apart (refusal_as w) (ap (λ (o : paper.Outcome). o.verdict) e))
+    same (Err why) (Ok u) e = absurd (apart (refusal_as why) (sym (ap (λ (o : paper.Outcome). o.verdict) e)))
+    same (Err why) (Err w) e = ap Err (same_refusal why w (ap (λ (o : paper.Outcome). o.verdict) e))
+
+    left : (a b : Result Totals Refusal) → outcome_as a soil snow p results ≡ outcome_as b soil snow q results → p ≡ q
+    left (Ok t) (Ok u) e = sym (past_forth p) ∙ ap (λ (o : paper.Outcome). past_in o.state.past) e ∙ past_forth q
+    left (Ok t) (Err w) e = sym (past_forth p) ∙ ap (λ (o : paper.Outcome). past_in o.state.past) e ∙ past_forth q
+    left (Err why) (Ok u) e = sym (past_forth p) ∙ ap (λ (o : paper.Outcome). past_in o.state.past) e ∙ past_forth q
+    left (Err why) (Err w) e = sym (past_forth p) ∙ ap (λ (o : paper.Outcome). past_in o.state.past) e ∙ past_forth q
 
 -- and of a fresh state
-pub start_only : (a b : Start) (soil snow : List ℕ) → fresh_as a soil snow ≡ fresh_as b soil snow → a ≡ b
-start_only a b soil snow e =
-    λ k. record {
-      verdict = (sym (verdict_forth a.verdict) ∙ ap (λ (f : paper.Fresh). verdict_in f.verdict) e ∙ verdict_forth b.verdict) k;
-      past = (sym (past_forth a.past) ∙ ap (λ (f : paper.Fresh). past_in f.state.past) e ∙ past_forth b.past) k;
-    }
+pub start_only : (a b : Result Past Refusal) (soil snow : List ℕ) → fresh_as a soil snow ≡ fresh_as b soil snow → a ≡ b
+start_only (Ok p) (Ok q) soil snow e = ap Ok (sym (past_forth p) ∙ ap (λ (f : paper.Fresh). past_in f.state.past) e ∙ past_forth q)
+start_only (Ok p) (Err w) soil snow e = absurd (apart (refusal_as w) (ap (λ (f : paper.Fresh). f.verdict) e))
+start_only (Err why) (Ok q) soil snow e = absurd (apart (refusal_as why) (sym (ap (λ (f : paper.Fresh). f.verdict) e)))
+start_only (Err why) (Err w) soil snow e = ap Err (same_refusal why w (ap (λ (f : paper.Fresh). f.verdict) e))

@@ -1,11 +1,13 @@
 -- What the calls hand back, as the paper's.
-use Rattle.std.specs.Prelude.{List, ℕ}
+use Rattle.std.specs.Prelude.{List, ℕ, Result, Ok, Err}
+use Rattle.paper.specs.State.{no_past}
+use Rattle.paper.specs.Refusals.{accepted, refused}
 use Rattle.paper.specs.Day as paper
 use Rattle.records.specs.Past.{state_as}
-use Rattle.records.specs.Verdicts.{verdict_as}
+use Rattle.records.specs.Verdicts.{refusal_as}
+use Rattle.records.specs.declared.past.Past.{Past}
+use Rattle.records.specs.declared.verdicts.Refusal.{Refusal}
 use Rattle.records.specs.declared.answers.Totals.{Totals}
-use Rattle.records.specs.declared.answers.Answer.{Answer}
-use Rattle.records.specs.declared.answers.Start.{Start}
 
 abbrev pub totals_as : Totals → paper.Totals
 totals_as t =
@@ -19,9 +21,11 @@ totals_as t =
       stored = t.stored.0;
     }
 
--- a fresh state's answer with the lent stores as it left them
-abbrev pub fresh_as : Start → List ℕ → List ℕ → paper.Fresh
-fresh_as a soil snow = record { verdict = verdict_as a.verdict; state = state_as soil snow a.past }
+-- a fresh state's answer with the lent stores as it left them: refused, it has no rain, no serial and no frost
+abbrev pub fresh_as : Result Past Refusal → List ℕ → List ℕ → paper.Fresh
+fresh_as (Ok past) soil snow = record { verdict = accepted; state = state_as soil snow past }
+fresh_as (Err why) soil snow =
+    record { verdict = refused (refusal_as why); state = record { soil = soil; snow = snow; past = no_past } }
 
 abbrev pub results_as : List ℕ → List ℕ → List ℕ → List ℕ → List ℕ → paper.Results
 results_as intercepted outflow evapotranspired recharged rejected =
@@ -33,12 +37,9 @@ results_as intercepted outflow evapotranspired recharged rejected =
       rejected = rejected;
     }
 
--- a day's answer with the lent stores and results as it left them
-abbrev pub outcome_as : Answer → List ℕ → List ℕ → paper.Results → paper.Outcome
-outcome_as a soil snow results =
-    record {
-      verdict = verdict_as a.verdict;
-      results = results;
-      totals = totals_as a.totals;
-      state = state_as soil snow a.past;
-    }
+-- a day's answer with the lent stores, past and results as it left them: refused, it has no totals
+abbrev pub outcome_as : Result Totals Refusal → List ℕ → List ℕ → Past → paper.Results → paper.Outcome
+outcome_as (Ok totals) soil snow past results =
+    record { verdict = accepted; results = results; totals = totals_as totals; state = state_as soil snow past }
+outcome_as (Err why) soil snow past results =
+    record { verdict = refused (refusal_as why); results = results; totals = paper.no_totals; state = state_as soil snow past }

@@ -10,7 +10,7 @@ mod past;
 mod quantities;
 mod verdicts;
 
-pub use answers::{Answer, Start, Totals};
+pub use answers::Totals;
 pub use days::DayRecord;
 pub use frost::frost_after;
 pub use grids::{Climate, Grid, MOST_CELLS, Season, Setpoints};

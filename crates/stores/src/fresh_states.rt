@@ -1,24 +1,14 @@
 // A fresh state.
 ghost use Rattle.std.specs.Prelude.{◌≡◌, length};
-ghost use Rattle.paper.specs.State.{no_past};
 ghost use Rattle.paper.specs.Day.{fresh_of};
 ghost use Rattle.records.specs.Answers.{fresh_as};
 ghost use Rattle.records.specs.Grids.{setup_as};
-ghost use Rattle.records.specs.Past.{past_as};
 ghost use Rattle.survey.specs.Charts.{SlotsFit};
 ghost use Rattle.stores.specs.Fresh.{Filled};
 
 use covers::{root_depths, small_index};
-use records::{Climate, Grid, MOST_CELLS, Past, Refusal, Start, one_each};
+use records::{Climate, Grid, MOST_CELLS, Past, Refusal, one_each};
 use survey::survey;
-
-// No rain yet, no serial and no frost.
-fn begin(verdict: Result<(), Refusal>) -> Start
-    ensures { (result.verdict ≡ verdict) × (past_as result.past ≡ no_past) }
-{
-    let past = Past::none();
-    Start { verdict, past }
-}
 
 // Fills a fresh state's stores: soil full, none on open water, and no snow.
 fn fill(
@@ -33,15 +23,13 @@ fn fill(
     ensures { Filled covers.now slots.now available.now soil.new snow.new }
 {
     let roots = root_depths(covers);
-    let mut i = 0;
-    while i < available.len() {
+    for i in 0..available.len() {
         soil[i] = available[i] * roots[small_index(slots[i])];
         snow[i] = 0;
-        i += 1;
     }
 }
 
-// A fresh state: tests 1 to 6, then soil full (0 on open water), snow 0, five zeros, no serial and no frost.
+// A fresh state: tests 1 to 6, then soil full (0 on open water), snow 0, and a past of five zeros, no serial and no frost.
 pub fn fresh(
     grid: Grid,
     climate: Climate,
@@ -52,27 +40,24 @@ pub fn fresh(
     available: &[u32],
     soil: &mut [u32],
     snow: &mut [u32],
-) -> Start
+) -> Result<Past, Refusal>
     ensures { fresh_as result soil.new snow.new ≡ fresh_of
         (setup_as grid climate covers.now direction.now cover.now group.now available.now)
         soil.old snow.old }
 {
     if !grid.fits() {
-        return begin(Err(Refusal::Grid));
+        return Err(Refusal::Grid);
     }
     if !one_each(grid.cells(), &[soil.len(), snow.len()]) {
-        return begin(Err(Refusal::Lent));
+        return Err(Refusal::Lent);
     }
     let mut slots = [0u8; MOST_CELLS];
     let mut ways = [0u32; MOST_CELLS];
     let mut order = [0u32; MOST_CELLS];
-    let verdict = survey(
+    survey(
         grid, climate, covers, direction, cover, group, available, &mut slots, &mut ways,
         &mut order,
-    );
-    if let Err(why) = verdict {
-        return begin(Err(why));
-    }
+    )?;
     fill(covers, &slots, available, soil, snow);
-    begin(Ok(()))
+    Ok(Past::none())
 }

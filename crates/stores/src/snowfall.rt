@@ -17,19 +17,17 @@ fn is_deep(plots: &[u32; PLOT_ROOM], slot: u8, snow: u32) -> bool
 }
 
 // The lowest cell whose store the snowfall of its slot would take past its limit. There are slots for 4,096 stores: no store past them is looked at.
-pub fn snow_verdict(plots: &[u32; PLOT_ROOM], slots: &[u8; MOST_CELLS], snow: &[u32]) -> Result<(), Refusal>
+pub fn snow_verdict(
+    plots: &[u32; PLOT_ROOM],
+    slots: &[u8; MOST_CELLS],
+    snow: &[u32],
+) -> Result<(), Refusal>
     ensures { result ≡ verdict_in (verdict (snow_tests plots.now slots.now snow.now)) }
 {
-    let mut n = snow.len();
-    if MOST_CELLS < n {
-        n = MOST_CELLS;
-    }
-    let mut i = 0;
-    while i < n {
+    for i in 0..snow.len().min(MOST_CELLS) {
         if is_deep(plots, slots[i], snow[i]) {
             return Err(Refusal::Snowfall(i));
         }
-        i += 1;
     }
     Ok(())
 }

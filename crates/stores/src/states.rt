@@ -63,13 +63,10 @@ fn bad_store(
         (λ i. not (stores_at covers.now slots.now available.now soil.now snow.now i))) }
 {
     let roots = root_depths(covers);
-    let n = available.len();
-    let mut i = 0;
-    while i < n {
+    for i in 0..available.len() {
         if !stores_fit(covers, &roots, slots[i], available[i], soil[i], snow[i]) {
             return Some(i);
         }
-        i += 1;
     }
     None
 }

@@ -5,7 +5,7 @@ use Rattle.stores.specs.States.{stores_at}
 use Rattle.stores.proofs.states.bad_store.Goals as goal
 
 pub loop-i-init : goal.loop-i-init
-loop-i-init c = (search rules, search rules, λ j h. absurd (not-suc-le-zero h))
+loop-i-init c = λ j h. absurd (not-suc-le-zero h)
 
 pub stores_fit-requires : goal.stores_fit-requires
 stores_fit-requires c = c.root_depths-roots.ensures
@@ -13,12 +13,12 @@ stores_fit-requires c = c.root_depths-roots.ensures
 pub returns-then-not-stores_fit : goal.returns-then-not-stores_fit
 unfolding stores_at
 returns-then-not-stores_fit c =
-    found_place _ _ _ c.loop-i.invariant.2 c.loop-i-test.true (ap not (sym c.stores_fit.ensures ∙ c.if-not-stores_fit.true))
+    found_place _ _ _ c.loop-i.invariant c.loop-i-test.true (ap not (sym c.stores_fit.ensures ∙ c.if-not-stores_fit.true))
 
 pub loop-i-preserved : goal.loop-i-preserved
 unfolding stores_at
 loop-i-preserved c =
-    (search rules, search rules, below_more _ _ c.loop-i.invariant.2 (ap not (sym c.stores_fit.ensures ∙ c.if-not-stores_fit.false)))
+    below_more _ _ c.loop-i.invariant (ap not (sym c.stores_fit.ensures ∙ c.if-not-stores_fit.false))
 
 pub returns : goal.returns
-returns c = no_place _ _ _ c.loop-i.invariant.2 c.loop-i-test.false
+returns c = no_place _ _ _ c.loop-i.invariant c.loop-i-test.false
