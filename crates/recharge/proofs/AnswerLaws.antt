@@ -26,11 +26,11 @@ use Rattle.paper.proofs.FlowLaws.{arriving_same}
 use Rattle.paper.proofs.SetupLaws.{Charted, SoundCell, sound_cell, closed_by_lem, open_by, to_inside, next_past}
 use Rattle.paper.proofs.SnowLaws.{melt_most}
 use Rattle.survey.specs.Charts.{slot_of, next_as, Mapped}
-use Rattle.records.specs.Verdicts.{verdict_as, verdict_in}
-use Rattle.records.specs.Verdicts as code
-use Rattle.std.specs.Prelude.{Ok}
+use Rattle.records.specs.Verdicts.{refusal_as, verdict_as, verdict_in}
+use Rattle.records.specs.declared.verdicts.Refusal as code
+use Rattle.std.specs.Prelude.{Err}
 use Rattle.records.specs.declared.answers.Totals.{Totals}
-use Rattle.records.proofs.VerdictLaws.{verdict_back}
+use Rattle.records.proofs.VerdictLaws.{refused_not, verdict_back}
 use Rattle.weather.proofs.TodayLaws.{DayKnown, day_known}
 use Rattle.survey.proofs.CellLaws.{slot_limit, cell_is}
 use Rattle.covers.proofs.TableLaws.{count_limit}
@@ -240,11 +240,10 @@ module _ (s : Setup) (st : State) (r : paper.Results) (d : Day) (before ways₀ 
   today_gross = ap (λ (x : Today). x.gross) is_today
 
   -- the whole answer of an accepted day
-  pub accepted_answer : paper.verdict_of s st r d ≡ accepted → (o : code.Verdict) → o ≡ (Ok tt) → (past : Past)
-      → past ≡ past_after st.past d → (told totals : Totals) → told ≡ totals → (after : pass.Slices)
+  pub accepted_answer : paper.verdict_of s st r d ≡ accepted → (past : Past) → past ≡ past_after st.past d → (totals : Totals) → (after : pass.Slices)
       → pass.Ran t plots slots ways s.available st.soil st.snow totals after
       → record {
-        verdict = verdict_as o;
+        verdict = accepted;
         results =
             record {
               intercepted = after.intercepted;
@@ -253,14 +252,14 @@ module _ (s : Setup) (st : State) (r : paper.Results) (d : Day) (before ways₀ 
               recharged = after.recharged;
               rejected = after.rejected;
             };
-        totals = totals_as told;
+        totals = totals_as totals;
         state = record { soil = after.soil; snow = after.snow; past = past };
       }
       ≡ paper.day_of s st r d
   unfolding paper.outcome_as paper.results_of paper.next_state pass.slices_by
-  accepted_answer v o passed past next told totals same_totals after ran =
+  accepted_answer v past next totals after ran =
       (λ k. record {
-        verdict = verdict_as (passed k);
+        verdict = accepted;
         results =
             record {
               intercepted = (same k).intercepted;
@@ -269,7 +268,7 @@ module _ (s : Setup) (st : State) (r : paper.Results) (d : Day) (before ways₀ 
               recharged = (same k).recharged;
               rejected = (same k).rejected;
             };
-        totals = (ap totals_as same_totals ∙ ran.summed ∙ totals_same _ _ _ _ _ lent.waters today_gross figure_same closes gone_same) k;
+        totals = (ran.summed ∙ totals_same _ _ _ _ _ lent.waters today_gross figure_same closes gone_same) k;
         state = record { soil = (same k).soil; snow = (same k).snow; past = next k };
       })
       ∙ sym (days.accepted_is s st r d v)
@@ -277,20 +276,19 @@ module _ (s : Setup) (st : State) (r : paper.Results) (d : Day) (before ways₀ 
       same : after ≡ pass.slices_by (cells s) (paper.figures_of s st d)
       same = ran.written ∙ slices_same _ _ lent.waters figure_same
 
--- a refused day hands back what it was given
-pub refused_answer : (s : Setup) (st : State) (r : paper.Results) (d : Day) (o given_o : code.Verdict) (totals : paper.Totals) (state : State)
-    → o ≡ given_o → totals ≡ paper.no_totals → state ≡ st → given_o ≡ verdict_in (paper.verdict_of s st r d) → (given_o ≡ (Ok tt) → ⊥)
-    → record { verdict = verdict_as o; results = r; totals = totals; state = state } ≡ paper.day_of s st r d
-refused_answer s st r d o given_o totals state same none kept e not = go (paper.verdict_of s st r d) refl
+-- a refused day leaves what it was lent
+pub refused_answer : (s : Setup) (st : State) (r : paper.Results) (d : Day) (why : code.Refusal) → Err why ≡ verdict_in (paper.verdict_of s st r d)
+    → record { verdict = refused (refusal_as why); results = r; totals = paper.no_totals; state = st } ≡ paper.day_of s st r d
+refused_answer s st r d why e = go (paper.verdict_of s st r d) refl
   where
     go : (v : Verdict) → paper.verdict_of s st r d ≡ v
-        → record { verdict = verdict_as o; results = r; totals = totals; state = state } ≡ paper.day_of s st r d
-    go accepted q = absurd (not (e ∙ ap verdict_in q))
-    go (refused why) q =
+        → record { verdict = refused (refusal_as why); results = r; totals = paper.no_totals; state = st } ≡ paper.day_of s st r d
+    go accepted q = absurd (refused_not (Err why) why refl (e ∙ ap verdict_in q))
+    go (refused w) q =
         (λ k. record {
-          verdict = (ap verdict_as (same ∙ e ∙ ap verdict_in q) ∙ verdict_back (refused why)) k;
+          verdict = (ap verdict_as (e ∙ ap verdict_in q) ∙ verdict_back (refused w)) k;
           results = r;
-          totals = none k;
-          state = kept k;
+          totals = paper.no_totals;
+          state = st;
         })
-        ∙ sym (days.refused_is s st r d why q)
+        ∙ sym (days.refused_is s st r d w q)

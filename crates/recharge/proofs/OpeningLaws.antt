@@ -120,8 +120,3 @@ pub opened : (s : Setup) (ns : List ℤ) (soil₀ snow₀ sums₀ totals₀ : Li
     → (r : Ended) (soil snow sums totals : List ℕ) → Went s ns totals₀ r soil snow sums totals → Periods s ns soil₀ snow₀ sums₀ totals₀ r soil snow sums totals
 opened s ns soil₀ snow₀ sums₀ totals₀ v r soil snow sums totals went =
     record { unbegun = λ why e. absurd (clash why (sym v ∙ e)); went = λ e. went }
-
--- a verdict that is not accepted is a refusal
-pub refusal_of : (v : code.Verdict) → (v ≡ (Ok tt) → ⊥) → (w : Refusal) × (verdict_as v ≡ refused w)
-refusal_of (Ok tt) not = absurd (not refl)
-refusal_of (Err why) not = (refusal_as why, refl)

@@ -8,11 +8,13 @@ use Rattle.paper.specs.Setup.{Setup, cells}
 use Rattle.paper.specs.State.{State, Day}
 use Rattle.paper.specs.CellDay.{Today, today}
 use Rattle.paper.specs.Refusals.{Refusal, Verdict, accepted, refused, verdict, one_each, day_tests}
-use Rattle.paper.specs.Day.{Results, Totals, no_totals, check_of, verdict_of, lengths_of, day_of}
+use Rattle.paper.specs.Day.{Results, no_totals, check_of, verdict_of, lengths_of, day_of}
 use Rattle.paper.proofs.DayLaws.{SoundDay, sound_day}
-use Rattle.records.specs.Verdicts.{verdict_as, verdict_in}
-use Rattle.records.specs.Verdicts as code
-use Rattle.std.specs.Prelude.{Ok}
+use Rattle.records.specs.Verdicts.{refusal_as, verdict_in}
+use Rattle.records.specs.Verdicts as verdicts
+use Rattle.records.specs.declared.verdicts.Refusal as code
+use Rattle.records.proofs.VerdictLaws.{refused_not}
+use Rattle.std.specs.Prelude.{Err}
 use Rattle.weather.specs.Today.{weather_of}
 use Rattle.weather.proofs.TodayLaws.{today_fits}
 use Rattle.covers.specs.Plots.{plots_of}
@@ -50,7 +52,7 @@ module _ (s : Setup) (st : State) (r : Results) (d : Day) (slots ways order : Li
 
   module _ (t : Today) (is : t ≡ weather_of s.climate st.past d) where
     -- the verdict of the later tests is that of all
-    pub told : (plots₀ plots : List ℕ) → plots ≡ plots_of t s.covers plots₀ → (v : code.Verdict)
+    pub told : (plots₀ plots : List ℕ) → plots ≡ plots_of t s.covers plots₀ → (v : verdicts.Verdict)
         → v ≡ verdict_in (verdict (later_tests s.grid s.covers slots s.available st.soil st.snow st.past d plots))
         → v ≡ verdict_in (verdict_of s st r d)
     told plots₀ plots laid v e =
@@ -63,29 +65,25 @@ module _ (s : Setup) (st : State) (r : Results) (d : Day) (slots ways order : Li
     weather v = let sound : SoundDay s st r d = sound_day s st r d v in is ∙ today_fits s.climate st.past d sound.day sound.memory
 
 -- a refusal of some tests that is the refusal of all
-decided : {some all : Verdict} → ((why : Refusal) → some ≡ refused why → all ≡ refused why) → {v : code.Verdict} → v ≡ verdict_in some → (v ≡ (Ok tt) → ⊥)
-    → v ≡ verdict_in all
-decided {some} {all} decides {v} e not = go some refl
+decided : {some all : Verdict} → ((why : Refusal) → some ≡ refused why → all ≡ refused why) → (why : code.Refusal) → Err why ≡ verdict_in some
+    → Err why ≡ verdict_in all
+decided {some} {all} decides why e = go some refl
   where
-    go : (x : Verdict) → some ≡ x → v ≡ verdict_in all
-    go accepted q = absurd (not (e ∙ ap verdict_in q))
-    go (refused why) q = e ∙ ap verdict_in (q ∙ sym (decides why q))
+    go : (x : Verdict) → some ≡ x → Err why ≡ verdict_in all
+    go accepted q = absurd (refused_not (Err why) why refl (e ∙ ap verdict_in q))
+    go (refused w) q = e ∙ ap verdict_in (q ∙ sym (decides w q))
 
--- what is refused before the day's own tests hands back what it was given
-module _ (s : Setup) (st : State) (r : Results) (d : Day) where
-  abbrev Handed : code.Verdict → Totals → State → Type 0
-  Handed o totals state = record { verdict = verdict_as o; results = r; totals = totals; state = state } ≡ day_of s st r d
+-- what is refused before the day's own tests leaves what was lent
+module _ (s : Setup) (st : State) (r : Results) (d : Day) (why : code.Refusal) where
+  abbrev Left : Type 0
+  Left = record { verdict = refused (refusal_as why); results = r; totals = no_totals; state = st } ≡ day_of s st r d
 
   -- by tests 1 and 2 of the stores and the results
-  pub lent_refuses : (o v : code.Verdict) → v ≡ verdict_in (verdict (lent_tests s.grid (lent_lengths st r))) → (v ≡ (Ok tt) → ⊥)
-      → (totals : Totals) (state : State) → o ≡ v → totals ≡ no_totals → state ≡ st → Handed o totals state
+  pub lent_refuses : Err why ≡ verdict_in (verdict (lent_tests s.grid (lent_lengths st r))) → Left
   unfolding verdict_of lengths_of
-  lent_refuses o v e not totals state same none kept =
-      refused_answer s st r d o v totals state same none kept (decided (lent_decides s (lent_lengths st r) st d) e not) not
+  lent_refuses e = refused_answer s st r d why (decided (lent_decides s (lent_lengths st r) st d) why e)
 
   -- by the survey
-  pub survey_refuses : one_each (cells s) (lent_lengths st r) ≡ true → (o v : code.Verdict) → v ≡ verdict_in (check_of s) → (v ≡ (Ok tt) → ⊥)
-      → (totals : Totals) (state : State) → o ≡ v → totals ≡ no_totals → state ≡ st → Handed o totals state
+  pub survey_refuses : one_each (cells s) (lent_lengths st r) ≡ true → Err why ≡ verdict_in (check_of s) → Left
   unfolding verdict_of lengths_of
-  survey_refuses each o v e not totals state same none kept =
-      refused_answer s st r d o v totals state same none kept (decided (survey_decides s (lent_lengths st r) st d each) e not) not
+  survey_refuses each e = refused_answer s st r d why (decided (survey_decides s (lent_lengths st r) st d each) why e)

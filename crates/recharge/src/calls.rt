@@ -8,11 +8,11 @@ ghost use Rattle.records.specs.Answers.{results_as, outcome_as};
 
 use crate::surveyed::surveyed_day;
 use admission::{Lengths, lent_verdict};
-use records::{Answer, Climate, DayRecord, Grid, MOST_CELLS, Past};
+use records::{Climate, DayRecord, Grid, MOST_CELLS, Past, Refusal, Totals};
 use survey::survey;
 
-// One day: tests 1 to 10, then the five results and the two stores of every cell, the totals, and the next memory, serial and frost index. A day refused hands
-// back what it was given, and no totals.
+// One day: tests 1 to 10, then the five results and the two stores of every cell, the totals, and the next memory, serial and frost index. A day refused leaves
+// all that it was lent as it was.
 pub fn day(
     grid: Grid,
     climate: Climate,
@@ -28,13 +28,13 @@ pub fn day(
     evapotranspired: &mut [u32],
     recharged: &mut [u32],
     rejected: &mut [u32],
-    past: Past,
+    past: &mut Past,
     day: DayRecord,
-) -> Answer
-    ensures { outcome_as result soil.new snow.new
+) -> Result<Totals, Refusal>
+    ensures { outcome_as result soil.new snow.new past.new
         (results_as intercepted.new outflow.new evapotranspired.new recharged.new rejected.new)
         ≡ day_of (setup_as grid climate covers.now direction.now cover.now group.now available.now)
-        (state_as soil.old snow.old past)
+        (state_as soil.old snow.old past.old)
         (results_as intercepted.old outflow.old evapotranspired.old recharged.old rejected.old) (day_as day) }
 {
     let lengths = Lengths {
@@ -44,20 +44,14 @@ pub fn day(
         recharged: recharged.len(),
         rejected: rejected.len(),
     };
-    let lent = lent_verdict(grid, soil.len(), snow.len(), lengths);
-    let Ok(()) = lent else {
-        return Answer::refused(lent, past);
-    };
+    lent_verdict(grid, soil.len(), snow.len(), lengths)?;
     let mut slots = [0u8; MOST_CELLS];
     let mut ways = [0u32; MOST_CELLS];
     let mut order = [0u32; MOST_CELLS];
-    let setup = survey(
+    survey(
         grid, climate, covers, direction, cover, group, available, &mut slots, &mut ways,
         &mut order,
-    );
-    let Ok(()) = setup else {
-        return Answer::refused(setup, past);
-    };
+    )?;
     surveyed_day(
         grid,
         climate,

@@ -70,8 +70,7 @@ pub(crate) fn downhill(
     retention(&mut f);
     let mut arrived = [0u32; MOST_CELLS];
     let mut totals = Totals::none();
-    let mut turn = 0;
-    while turn < n {
+    for turn in 0..n {
         let cell = index_of(order[turn]);
         let way = Way(ways[cell]);
         let day = day_at(
@@ -93,7 +92,6 @@ pub(crate) fn downhill(
         evapotranspired[cell] = day.evapotranspired;
         recharged[cell] = day.recharged;
         rejected[cell] = day.rejected;
-        turn += 1;
     }
     totals
 }

@@ -14,6 +14,9 @@ mod ways;
 
 pub use calls::day;
 pub use periods::{Ended, period};
-pub use records::{Answer, Climate, CurveNumber, DayRecord, Depth, FrostIndex, Grid, Memory, Past, Refusal, Season, Setpoints, Start, TenthF, Totals};
+pub use records::{
+    Climate, CurveNumber, DayRecord, Depth, FrostIndex, Grid, Memory, Past, Refusal, Season,
+    Setpoints, TenthF, Totals,
+};
 pub use stores::fresh;
 pub use survey::check;

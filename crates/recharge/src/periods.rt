@@ -1,5 +1,5 @@
 // A period: a list of days in one call, from the fresh state, with each cell's five figures added up over them. The setup is surveyed once.
-ghost use Rattle.std.specs.Prelude.{◌≡◌, ◌+◌, ◌≤◌, length};
+ghost use Rattle.std.specs.Prelude.{Err, ◌≡◌, ◌+◌, ◌≤◌, length};
 ghost use Rattle.theory.specs.Lists.{made};
 ghost use Rattle.paper.specs.State.{no_past};
 ghost use Rattle.records.specs.Answers.{results_as};
@@ -22,12 +22,12 @@ pub struct Ended {
 }
 
 // Before any day.
-fn unbegun(verdict: Result<(), Refusal>) -> Ended
-    ensures { (result.verdict ≡ verdict) × (result.days ≡ 0) × (past_as result.past ≡ no_past) }
+fn unbegun(why: Refusal) -> Ended
+    ensures { (result.verdict ≡ Err why) × (result.days ≡ 0) × (past_as result.past ≡ no_past) }
 {
     let past = Past::none();
     Ended {
-        verdict,
+        verdict: Err(why),
         days: 0,
         past,
     }
@@ -39,10 +39,8 @@ const CELL_SUMS: usize = 5;
 fn clear(sums: &mut [u64])
     ensures { sums.new ≡ made (length sums.old) (λ i. 0) }
 {
-    let mut i = 0;
-    while i < sums.len() {
+    for i in 0..sums.len() {
         sums[i] = 0;
-        i += 1;
     }
 }
 
@@ -51,10 +49,8 @@ fn add_figures(sums: &mut [u64], from: usize, figures: &[u32])
     requires { (from + length figures.now ≤ length sums.old) × SumsRoom sums.old }
     ensures { Added from (length figures.now) figures.now sums.old sums.new }
 {
-    let mut i = 0;
-    while i < figures.len() {
+    for i in 0..figures.len() {
         sums[from + i] += wide(figures[i]);
-        i += 1;
     }
 }
 
@@ -104,12 +100,12 @@ fn run(
     let mut slots = [0u8; MOST_CELLS];
     let mut ways = [0u32; MOST_CELLS];
     let mut order = [0u32; MOST_CELLS];
-    survey(
+    // the setup has passed these tests already
+    let _ = survey(
         grid, climate, covers, direction, cover, group, available, &mut slots, &mut ways,
         &mut order,
     );
     let n = available.len();
-    let count = days.len() / DAY_NUMBERS;
     let mut intercepted = [0u32; MOST_CELLS];
     let mut outflow = [0u32; MOST_CELLS];
     let mut evapotranspired = [0u32; MOST_CELLS];
@@ -117,8 +113,7 @@ fn run(
     let mut rejected = [0u32; MOST_CELLS];
     clear(sums);
     let mut past = past;
-    let mut k = 0;
-    while k < count {
+    for k in 0..days.len() / DAY_NUMBERS {
         let day = day_at(days, k);
         let answer = surveyed_day(
             grid,
@@ -135,17 +130,18 @@ fn run(
             &mut evapotranspired[..n],
             &mut recharged[..n],
             &mut rejected[..n],
-            past,
+            &mut past,
             day,
         );
-        let verdict = answer.verdict;
-        past = answer.past;
-        let Ok(()) = verdict else {
-            return Ended {
-                verdict,
-                days: k,
-                past,
-            };
+        let day_totals = match answer {
+            Ok(totals) => totals,
+            Err(why) => {
+                return Ended {
+                    verdict: Err(why),
+                    days: k,
+                    past,
+                };
+            }
         };
         add_day(
             sums,
@@ -156,12 +152,11 @@ fn run(
             &recharged[..n],
             &rejected[..n],
         );
-        put_totals(totals, k, answer.totals);
-        k += 1;
+        put_totals(totals, k, day_totals);
     }
     Ended {
         verdict: Ok(()),
-        days: count,
+        days: days.len() / DAY_NUMBERS,
         past,
     }
 }
@@ -196,21 +191,18 @@ pub fn period(
         soil.new snow.new sums.new totals.new }
 {
     if !grid.fits() {
-        return unbegun(Err(Refusal::Grid));
+        return unbegun(Refusal::Grid);
     }
     if !lists_fit(grid.cells(), days.len(), sums.len(), totals.len()) {
-        return unbegun(Err(Refusal::Lent));
+        return unbegun(Refusal::Lent);
     }
-    let start = fresh(
+    match fresh(
         grid, climate, covers, direction, cover, group, available, soil, snow,
-    );
-    let verdict = start.verdict;
-    let Ok(()) = verdict else {
-        return unbegun(verdict);
-    };
-    let past = start.past;
-    run(
-        grid, climate, covers, direction, cover, group, available, days, soil, snow, sums, totals,
-        past,
-    )
+    ) {
+        Err(why) => unbegun(why),
+        Ok(past) => run(
+            grid, climate, covers, direction, cover, group, available, days, soil, snow, sums,
+            totals, past,
+        ),
+    }
 }

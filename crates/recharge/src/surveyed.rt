@@ -7,7 +7,7 @@ ghost use Rattle.recharge.specs.Surveyed.{SomeReady, Answered};
 use crate::downhill::downhill;
 use admission::day_verdict;
 use covers::PLOT_ROOM;
-use records::{Answer, Climate, DayRecord, Grid, MOST_CELLS, Past};
+use records::{Climate, DayRecord, Grid, MOST_CELLS, Past, Refusal, Totals};
 use weather::today_of;
 
 // It need not be told the cells' directions, covers and groups again: of every setup that it is ready for, the answer is the day's.
@@ -26,25 +26,22 @@ pub(crate) fn surveyed_day(
     evapotranspired: &mut [u32],
     recharged: &mut [u32],
     rejected: &mut [u32],
-    past: Past,
+    past: &mut Past,
     day: DayRecord,
-) -> Answer
-    requires { SomeReady grid climate covers.now available.now slots.now ways.now order.now (state_as soil.old snow.old past)
+) -> Result<Totals, Refusal>
+    requires { SomeReady grid climate covers.now available.now slots.now ways.now order.now (state_as soil.old snow.old past.old)
         (results_as intercepted.old outflow.old evapotranspired.old recharged.old rejected.old) }
     ensures { Answered grid climate covers.now available.now slots.now ways.now order.now
-        (state_as soil.old snow.old past)
+        (state_as soil.old snow.old past.old)
         (results_as intercepted.old outflow.old evapotranspired.old recharged.old rejected.old) (day_as day)
-        (outcome_as result soil.new snow.new
+        (outcome_as result soil.new snow.new past.new
         (results_as intercepted.new outflow.new evapotranspired.new recharged.new rejected.new)) }
 {
     let mut plots = [0u32; PLOT_ROOM];
-    let today = today_of(climate, past, day);
-    let verdict = day_verdict(
-        grid, today, covers, slots, available, soil, snow, past, day, &mut plots,
-    );
-    let Ok(()) = verdict else {
-        return Answer::refused(verdict, past);
-    };
+    let today = today_of(climate, *past, day);
+    day_verdict(
+        grid, today, covers, slots, available, soil, snow, *past, day, &mut plots,
+    )?;
     let totals = downhill(
         today,
         &plots,
@@ -60,5 +57,6 @@ pub(crate) fn surveyed_day(
         recharged,
         rejected,
     );
-    Answer::accepted(totals, past.after(day))
+    *past = past.after(day);
+    Ok(totals)
 }

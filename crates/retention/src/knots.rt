@@ -38,14 +38,11 @@ pub fn retention(f: &mut [u32; KNOTS])
 {
     let kept = kept_entries();
     *f = [0u32; KNOTS];
-    let mut i = 0;
-    while i < CHAINS {
+    for i in 0..CHAINS {
         f[i] = kept[i];
-        i += 1;
     }
-    while i < LAST_KNOT {
+    for i in CHAINS..LAST_KNOT {
         f[i] = next(f[i - CHAINS]);
-        i += 1;
     }
     f[LAST_KNOT] = kept[CHAINS];
 }

@@ -13,57 +13,59 @@ use Rattle.records.proofs.VerdictLaws.{accepted_back}
 use Rattle.admission.proofs.TestLaws.{lent_passes}
 use Rattle.recharge.specs.Surveyed.{lent_lengths}
 use Rattle.recharge.proofs.SurveyedLaws.{surveyed_ready, lent_refuses, survey_refuses}
-use Rattle.std.specs.Prelude.{Ok}
-use Rattle.recharge.proofs.calls.day.Goals.{After-lent_verdict-lent}
+use Rattle.std.proofs.Common.{rules}
+use Rattle.std.specs.Prelude.{Ok, Err}
+use Rattle.recharge.proofs.calls.day.Goals.{After-lent_verdict}
 use Rattle.recharge.proofs.calls.day.Goals as goal
 
 -- what was handed over, as the paper's
-module _ (c : goal.After-lent_verdict-lent) where
+module _ (c : goal.After-lent_verdict) where
   abbrev setup : Setup
   setup =
       setup_as c.args.grid c.args.climate c.args.covers.now c.args.direction.now c.args.cover.now c.args.group.now
       c.args.available.now
 
   abbrev state : State
-  state = state_as c.args.soil.now c.args.snow.now c.args.past
+  state = state_as c.args.soil.now c.args.snow.now c.args.past.now
 
   abbrev results : Results
   results =
       results_as c.args.intercepted.now c.args.outflow.now c.args.evapotranspired.now c.args.recharged.now c.args.rejected.now
 
   -- the stores and the results have one entry a cell
-  each : c.lent_verdict-lent.result ≡ (Ok tt) → one_each (cells setup) (lent_lengths state results) ≡ true
-  each lent = lent_passes _ _ (accepted_back _ (sym lent ∙ c.lent_verdict-lent.ensures))
+  each : c.lent_verdict.result ≡ (Ok tt) → one_each (cells setup) (lent_lengths state results) ≡ true
+  each lent = lent_passes _ _ (accepted_back _ (sym lent ∙ c.lent_verdict.ensures))
 
-pub returns-in_default : goal.returns-in_default
-returns-in_default c =
-    let s = (goal.at.returns-in_default c).After-lent_verdict-lent in
-    lent_refuses (setup s) (state s) (results s) (day_as c.args.day) _ _ c.lent_verdict-lent.ensures
-    c.in_default.not-(Ok tt) _ _ c.refused.ensures.0 c.refused.ensures.1
-    (ap (state_as c.args.soil.now c.args.snow.now) c.refused.ensures.2)
+pub returns-in_err-lent_verdict : goal.returns-in_err-lent_verdict
+returns-in_err-lent_verdict c =
+    let s = (goal.at.returns-in_err-lent_verdict c).After-lent_verdict in
+    let why = c.in_err-lent_verdict.field-0.0 in
+    let same : c.from_residual.result ≡ Err why = search rules in
+    rw same (lent_refuses (setup s) (state s) (results s) (day_as c.args.day) why (sym c.in_err-lent_verdict.was ∙ c.lent_verdict.ensures))
 
-pub returns-in_default-setup : goal.returns-in_default-setup
-returns-in_default-setup c =
-    let s = (goal.at.returns-in_default-setup c).After-lent_verdict-lent in
-    survey_refuses (setup s) (state s) (results s) (day_as c.args.day) (each s c.in-(Ok tt).is) _ _ c.survey-setup.ensures.verdict_is
-    c.in_default-setup.not-(Ok tt) _ _ c.refused-in_default-setup.ensures.0 c.refused-in_default-setup.ensures.1
-    (ap (state_as c.args.soil.now c.args.snow.now) c.refused-in_default-setup.ensures.2)
+pub returns-in_err-survey : goal.returns-in_err-survey
+returns-in_err-survey c =
+    let s = (goal.at.returns-in_err-survey c).After-lent_verdict in
+    let why = c.in_err-survey.field-0.0 in
+    let same : c.from_residual-in_err-survey.result ≡ Err why = search rules in
+    rw same
+    (survey_refuses (setup s) (state s) (results s) (day_as c.args.day) why (each s c.in_ok-lent_verdict.was) (sym c.in_err-survey.was ∙ c.survey.ensures.verdict_is))
 
 pub surveyed_day-requires : goal.surveyed_day-requires
 surveyed_day-requires c =
-    let passed = accepted_back _ (sym c.in-(Ok tt)-setup.is ∙ c.survey-setup.ensures.verdict_is) in
+    let passed = accepted_back _ (sym c.in_ok-survey.was ∙ c.survey.ensures.verdict_is) in
     record {
       direction = c.args.direction.now;
       cover = c.args.cover.now;
       group = c.args.group.now;
       ready =
-          let s = (goal.at.surveyed_day-requires c).After-lent_verdict-lent in
-          surveyed_ready (setup s) (state s) (results s) passed (c.survey-setup.ensures.mapped passed) (each s c.in-(Ok tt).is);
+          let s = (goal.at.surveyed_day-requires c).After-lent_verdict in
+          surveyed_ready (setup s) (state s) (results s) passed (c.survey.ensures.mapped passed) (each s c.in_ok-lent_verdict.was);
     }
 
 pub returns : goal.returns
 returns c =
-    let s = (goal.at.returns c).After-lent_verdict-lent in
-    let passed = accepted_back _ (sym c.in-(Ok tt)-setup.is ∙ c.survey-setup.ensures.verdict_is) in
+    let s = (goal.at.returns c).After-lent_verdict in
+    let passed = accepted_back _ (sym c.in_ok-survey.was ∙ c.survey.ensures.verdict_is) in
     c.surveyed_day.ensures.is c.args.direction.now c.args.cover.now c.args.group.now
-    (surveyed_ready (setup s) (state s) (results s) passed (c.survey-setup.ensures.mapped passed) (each s c.in-(Ok tt).is))
+    (surveyed_ready (setup s) (state s) (results s) passed (c.survey.ensures.mapped passed) (each s c.in_ok-lent_verdict.was))

@@ -85,12 +85,6 @@ offset_bounds-rejected-cell c = omega (arith, small (goal.at.offset_bounds-rejec
 pub bounds-rejected-cell : goal.bounds-rejected-cell
 bounds-rejected-cell c = omega (arith, inside (goal.at.bounds-rejected-cell c).After-add_cell-totals, (sized (goal.at.bounds-rejected-cell c).After-add_cell-totals).rejected)
 
-pub overflow_add-turn : goal.overflow_add-turn
-overflow_add-turn c = omega (arith, c.loop-turn-test.true, c.loop-turn.invariant.ready.pointing.most)
-
-pub loop-turn-smaller : goal.loop-turn-smaller
-loop-turn-smaller c = omega (arith, c.loop-turn-test.true)
-
 pub loop-turn-preserved : goal.loop-turn-preserved
 loop-turn-preserved c =
     pass_more c.loop-turn.invariant c.loop-turn-test.true _ c.index_of-cell.ensures _ c.day_at-day.ensures _ _ _ _ c.add_cell-totals.ensures

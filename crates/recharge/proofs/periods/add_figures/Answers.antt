@@ -10,16 +10,16 @@ inside : (c : goal.After-wide) → c.args.from + c.loop-i.i < length c.args.sums
 inside c = omega (arith, c.requires.0, c.loop-i-test.true)
 
 inside_now : (c : goal.After-wide) → c.args.from + c.loop-i.i < length c.loop-i.sums
-inside_now c = rw c.loop-i.invariant.1.kept (inside c)
+inside_now c = rw c.loop-i.invariant.kept (inside c)
 
 low : (c : goal.After-wide) → get_or c.loop-i.sums (c.args.from + c.loop-i.i) 0 ≤ roomy
-low c = rw (c.loop-i.invariant.1.ahead c.loop-i.i (le_refl _)) (c.requires.1.each _)
+low c = rw (c.loop-i.invariant.ahead c.loop-i.i (le_refl _)) (c.requires.1.each _)
 
 small : (c : goal.After-wide) → c.wide.result ≤ 4294967295
 small c = omega (arith, c.wide.ensures, (c.shared_slice_known-in-loop-i-1.given c.loop-i.i).fits)
 
 pub loop-i-init : goal.loop-i-init
-loop-i-init c = (search rules, added_none _ _ _)
+loop-i-init c = added_none _ _ _
 
 pub overflow_add-sums : goal.overflow_add-sums
 overflow_add-sums c = record { fits = omega (arith, inside (goal.at.overflow_add-sums c).After-wide, c.requires.1.few) }
@@ -38,10 +38,10 @@ bounds-sums-from-in-loop-i c = inside_now (goal.at.bounds-sums-from-in-loop-i c)
 
 pub loop-i-preserved : goal.loop-i-preserved
 loop-i-preserved c =
-    (search rules, added_next _ _ _ _ _ c.loop-i.invariant.1 _ c.wide.ensures (small (goal.at.loop-i-preserved c).After-wide) (inside (goal.at.loop-i-preserved c).After-wide))
+    added_next _ _ _ _ _ c.loop-i.invariant _ c.wide.ensures (small (goal.at.loop-i-preserved c).After-wide) (inside (goal.at.loop-i-preserved c).After-wide)
 
 pub shape_of-sums : goal.shape_of-sums
-shape_of-sums c = c.loop-i.invariant.1.kept
+shape_of-sums c = c.loop-i.invariant.kept
 
 pub returns : goal.returns
-returns c = let all : c.loop-i.i ≡ length c.args.figures.now = omega arith in rw all at c.loop-i.invariant.1
+returns c = let all : c.loop-i.i ≡ length c.args.figures.now = omega arith in rw all at c.loop-i.invariant

@@ -3,14 +3,17 @@ use mathlib.Core.Path.{◌≡◌, refl, sym, ap, ◌∙◌}
 use Prim.Native.Nat.{ℕ}
 use lib.ListN.{length}
 use Rattle.paper.specs.Setup.{Setup, cells_of}
-use Rattle.paper.specs.Refusals.{grid, lent, accepted}
+use Rattle.paper.specs.Refusals.{grid, lent, accepted, refused}
 use Rattle.paper.specs.Day.{Fresh}
 use Rattle.records.specs.Grids.{grid_as, setup_as}
-use Rattle.records.specs.Verdicts.{verdict_as}
+use Rattle.records.specs.Verdicts.{refusal_as, verdict_as}
+use Rattle.records.specs.declared.verdicts.Refusal.{Refusal}
+use Rattle.records.specs.declared.past.Past.{Past}
+use Rattle.std.specs.Prelude.{Result}
 use Rattle.records.specs.Answers.{fresh_as}
 use Rattle.recharge.specs.Period.{lists_fit}
-use Rattle.recharge.proofs.OpeningLaws.{few_cells, lists_sized, grid_refuses, lists_refuse, opens_as, fresh_kept, fresh_is, setup_passed, unopened, opened, refusal_of}
-use Rattle.recharge.proofs.periods.period.Goals.{Start, After-lists_fit, After-fresh-start}
+use Rattle.recharge.proofs.OpeningLaws.{few_cells, lists_sized, grid_refuses, lists_refuse, opens_as, fresh_kept, fresh_is, setup_passed, unopened, opened}
+use Rattle.recharge.proofs.periods.period.Goals.{Start, After-lists_fit, After-fresh}
 use Rattle.recharge.proofs.periods.period.Goals as goal
 
 abbrev setup : goal.Start → Setup
@@ -44,38 +47,46 @@ returns-then-not-lists_fit c =
     _ (ap verdict_as c.unbegun-then-not-lists_fit.ensures.0) c.unbegun-then-not-lists_fit.ensures.1 c.unbegun-then-not-lists_fit.ensures.2 _ _ refl refl
 
 -- what the fresh state answers
-abbrev answer : goal.After-fresh-start → Fresh
-answer c = fresh_as c.fresh-start.result c.fresh-start.new.soil c.fresh-start.new.snow
+abbrev answer : goal.After-fresh → Fresh
+answer c = fresh_as c.fresh.result c.fresh.new.soil c.fresh.new.snow
 
-pub returns-in_default : goal.returns-in_default
-returns-in_default c =
-    let s = setup (goal.at.returns-in_default c).Start in
-    let a = answer (goal.at.returns-in_default c).After-fresh-start in
-    let fit = sym (listing (goal.at.returns-in_default c).After-lists_fit) ∙ c.if-not-lists_fit.false in
-    let not = refusal_of c.fresh-start.result.verdict c.in_default.not-Accepted in
-    let kept = fresh_kept s _ _ _ fit a c.fresh-start.ensures not.0 not.1 in
-    unopened s c.args.days.now _ _ _ _ not.0
-    (opens_as s _ _ _ fit a c.fresh-start.ensures ∙ not.1)
-    _ (ap verdict_as c.unbegun-in_default.ensures.0 ∙ not.1) c.unbegun-in_default.ensures.1 c.unbegun-in_default.ensures.2 _ _ kept.0 kept.1
+pub returns-in-Err : goal.returns-in-Err
+returns-in-Err c =
+    let s = setup (goal.at.returns-in-Err c).Start in
+    let a = answer (goal.at.returns-in-Err c).After-fresh in
+    let fit = sym (listing (goal.at.returns-in-Err c).After-lists_fit) ∙ c.if-not-lists_fit.false in
+    let refused : a.verdict ≡ refused (refusal_as c.in-Err.why) = ap (λ (r : Result Past Refusal). (told r).verdict) c.in-Err.is in
+    let kept = fresh_kept s _ _ _ fit a c.fresh.ensures _ refused in
+    unopened s c.args.days.now _ _ _ _ (refusal_as c.in-Err.why)
+    (opens_as s _ _ _ fit a c.fresh.ensures ∙ refused)
+    _ (ap verdict_as c.unbegun-in-Err.ensures.0) c.unbegun-in-Err.ensures.1 c.unbegun-in-Err.ensures.2 _ _
+    (ap (λ (r : Result Past Refusal). (told r).state.soil) (sym c.in-Err.is) ∙ kept.0)
+    (ap (λ (r : Result Past Refusal). (told r).state.snow) (sym c.in-Err.is) ∙ kept.1)
+  where
+    told : Result Past Refusal → Fresh
+    told r = fresh_as r c.fresh.new.soil c.fresh.new.snow
 
 pub run-requires : goal.run-requires
 run-requires c =
     let s = setup (goal.at.run-requires c).Start in
-    let a = answer (goal.at.run-requires c).After-fresh-start in
+    let a = answer (goal.at.run-requires c).After-fresh in
     let fit = sym (listing (goal.at.run-requires c).After-lists_fit) ∙ c.if-not-lists_fit.false in
-    let passed : a.verdict ≡ accepted = ap verdict_as c.in-Accepted.is in
+    let passed : a.verdict ≡ accepted = ap (λ (r : Result Past Refusal). (told r).verdict) c.in-Ok.is in
     let sizes = lists_sized _ _ _ _ fit in
     record {
-      passed = setup_passed s _ _ _ fit a c.fresh-start.ensures passed;
-      fresh = fresh_is s _ _ _ fit a c.fresh-start.ensures passed;
+      passed = setup_passed s _ _ _ fit a c.fresh.ensures passed;
+      fresh = ap (λ (r : Result Past Refusal). (told r).state) (sym c.in-Ok.is) ∙ fresh_is s _ _ _ fit a c.fresh.ensures passed;
       sized = sizes.0;
       room = sizes.1;
     }
+  where
+    told : Result Past Refusal → Fresh
+    told r = fresh_as r c.fresh.new.soil c.fresh.new.snow
 
-pub returns : goal.returns
-returns c =
-    let s = setup (goal.at.returns c).Start in
-    let a = answer (goal.at.returns c).After-fresh-start in
-    let fit = sym (listing (goal.at.returns c).After-lists_fit) ∙ c.if-not-lists_fit.false in
+pub returns-in-Ok : goal.returns-in-Ok
+returns-in-Ok c =
+    let s = setup (goal.at.returns-in-Ok c).Start in
+    let a = answer (goal.at.returns-in-Ok c).After-fresh in
+    let fit = sym (listing (goal.at.returns-in-Ok c).After-lists_fit) ∙ c.if-not-lists_fit.false in
     opened s c.args.days.now _ _ _ _
-    (opens_as s _ _ _ fit a c.fresh-start.ensures ∙ ap verdict_as c.in-Accepted.is) _ _ _ _ _ c.run.ensures
+    (opens_as s _ _ _ fit a c.fresh.ensures ∙ ap (λ (r : Result Past Refusal). (fresh_as r c.fresh.new.soil c.fresh.new.snow).verdict) c.in-Ok.is) _ _ _ _ _ c.run.ensures

@@ -9,7 +9,10 @@ use Rattle.paper.proofs.PeriodLaws.{few_days}
 use Rattle.records.specs.Grids.{setup_as}
 use Rattle.records.specs.Past.{state_as}
 use Rattle.records.specs.Days.{day_as}
-use Rattle.records.specs.Verdicts.{verdict_as}
+use Rattle.records.specs.declared.verdicts.Refusal.{Refusal}
+use Rattle.records.specs.declared.answers.Totals.{Totals}
+use Rattle.records.proofs.VerdictLaws.{refused_not}
+use Rattle.std.specs.Prelude.{Result, Ok, Err}
 use Rattle.records.specs.Answers.{totals_as, results_as, outcome_as}
 use Rattle.records.proofs.FrontLaws.{parts, Room, after, left}
 use Rattle.survey.proofs.MapLaws.{sound_setup, waters_each}
@@ -46,7 +49,7 @@ module _ (c : goal.After-surveyed_day-answer) where
   state = state_as c.loop-k.soil c.loop-k.snow c.loop-k.past
 
   abbrev state' : State
-  state' = state_as c.surveyed_day-answer.new.soil c.surveyed_day-answer.new.snow c.surveyed_day-answer.result.past
+  state' = state_as c.surveyed_day-answer.new.soil c.surveyed_day-answer.new.snow c.surveyed_day-answer.new.past
 
   abbrev part : Results
   part =
@@ -54,7 +57,7 @@ module _ (c : goal.After-surveyed_day-answer) where
       results_as new.intercepted new.outflow new.evapotranspired new.recharged new.rejected
 
   abbrev out : Outcome
-  out = outcome_as c.surveyed_day-answer.result c.surveyed_day-answer.new.soil c.surveyed_day-answer.new.snow part
+  out = outcome_as c.surveyed_day-answer.result c.surveyed_day-answer.new.soil c.surveyed_day-answer.new.snow c.surveyed_day-answer.new.past part
 
   abbrev arrays : Results
   arrays =
@@ -141,23 +144,27 @@ surveyed_day-answer-requires c =
     }
 
 -- the stores and the lists are as long as they were
-pub shape_of-soil-in_default : goal.shape_of-soil-in_default
-shape_of-soil-in_default c = c.surveyed_day-answer.auto.soil ∙ c.loop-k.invariant.soils ∙ sym (fresh_soils _ _ _ _ _ c.requires)
+pub shape_of-soil-in-Err : goal.shape_of-soil-in-Err
+shape_of-soil-in-Err c = c.surveyed_day-answer.auto.soil ∙ c.loop-k.invariant.soils ∙ sym (fresh_soils _ _ _ _ _ c.requires)
 
-pub shape_of-snow-in_default : goal.shape_of-snow-in_default
-shape_of-snow-in_default c = c.surveyed_day-answer.auto.snow ∙ c.loop-k.invariant.snows ∙ sym (fresh_snows _ _ _ _ _ c.requires)
+pub shape_of-snow-in-Err : goal.shape_of-snow-in-Err
+shape_of-snow-in-Err c = c.surveyed_day-answer.auto.snow ∙ c.loop-k.invariant.snows ∙ sym (fresh_snows _ _ _ _ _ c.requires)
 
-pub shape_of-sums-in_default : goal.shape_of-sums-in_default
-shape_of-sums-in_default c = c.loop-k.invariant.sums_are.sized ∙ sym c.requires.sized
+pub shape_of-sums-in-Err : goal.shape_of-sums-in-Err
+shape_of-sums-in-Err c = c.loop-k.invariant.sums_are.sized ∙ sym c.requires.sized
 
-pub shape_of-totals-in_default : goal.shape_of-totals-in_default
-shape_of-totals-in_default c = c.loop-k.invariant.totals_sized ∙ sym c.requires.room
+pub shape_of-totals-in-Err : goal.shape_of-totals-in-Err
+shape_of-totals-in-Err c = c.loop-k.invariant.totals_sized ∙ sym c.requires.room
 
-pub returns-in_default : goal.returns-in_default
-returns-in_default c =
-    let day = (goal.at.returns-in_default c).After-surveyed_day-answer in
+pub returns-in-Err : goal.returns-in-Err
+returns-in-Err c =
+    let day = (goal.at.returns-in-Err c).After-surveyed_day-answer in
     refused_ends (s day) c.args.days.now c.args.totals.now (state day) _ _ _ _ _ _ _ c.loop-k.k c.loop-k.invariant (full day) (out day) (on day)
-    _ refl c.in_default.not-Accepted c.loop-k-test.true _ _ _ refl
+    (Err c.in-Err.why) (ap (λ (r : Result Totals Refusal). (told r).verdict) c.in-Err.is) (refused_not _ c.in-Err.why refl) c.loop-k-test.true _ _ _
+    (ap (λ (r : Result Totals Refusal). (told r).state) (sym c.in-Err.is))
+  where
+    told : Result Totals Refusal → Outcome
+    told r = let new = c.surveyed_day-answer.new in outcome_as r new.soil new.snow new.past (part (goal.at.returns-in-Err c).After-surveyed_day-answer)
 
 pub slice_bounds-intercepted-end-in-loop-k : goal.slice_bounds-intercepted-end-in-loop-k
 slice_bounds-intercepted-end-in-loop-k c = (held (goal.at.slice_bounds-intercepted-end-in-loop-k c).After-surveyed_day-answer).0.intercepted
@@ -198,21 +205,20 @@ add_day-requires c =
     (length-take-le _ _ room.intercepted) (length-take-le _ _ room.outflow) (length-take-le _ _ room.evapotranspired) (length-take-le _ _ room.recharged)
     (length-take-le _ _ room.rejected)
 
-pub overflow_add-k : goal.overflow_add-k
-overflow_add-k c =
-    let setup' = setup (goal.at.overflow_add-k c).Start in
-    record { fits = omega (arith, few_days setup' (fresh_run setup') (day_in c.args.days.now) c.loop-k.k c.loop-k.invariant.before) }
-
 pub loop-k-preserved : goal.loop-k-preserved
 loop-k-preserved c =
     let day = (goal.at.loop-k-preserved c).After-surveyed_day-answer in
     let kept = c.surveyed_day-answer.auto in
     let l = c.loop-k in
     underway_next (s day) c.args.days.now c.args.totals.now (state day) _ _ _ _ _ _ _ l.k l.invariant (full day) (out day) (on day)
-    (ap verdict_as c.in-Accepted.is) c.loop-k-test.true
-    (part day) refl (state' day) refl (kept.soil ∙ l.invariant.soils) (kept.snow ∙ l.invariant.snows)
-    _ (subst_results day c.add_day.ensures) _ (totals_as c.surveyed_day-answer.result.totals) refl c.put_totals.ensures
+    (ap (λ (r : Result Totals Refusal). (told r).verdict) c.in-Ok.is) c.loop-k-test.true
+    (part day) (ap (λ (r : Result Totals Refusal). (told r).results) (sym c.in-Ok.is))
+    (state' day) (ap (λ (r : Result Totals Refusal). (told r).state) (sym c.in-Ok.is)) (kept.soil ∙ l.invariant.soils) (kept.snow ∙ l.invariant.snows)
+    _ (subst_results day c.add_day.ensures) _ (totals_as c.in-Ok.totals) (ap (λ (r : Result Totals Refusal). (told r).totals) (sym c.in-Ok.is)) c.put_totals.ensures
     _ _ _ _ _ (held day).0 (held day).1
+  where
+    told : Result Totals Refusal → Outcome
+    told r = let new = c.surveyed_day-answer.new in outcome_as r new.soil new.snow new.past (part (goal.at.loop-k-preserved c).After-surveyed_day-answer)
 
 pub shape_of-soil : goal.shape_of-soil
 shape_of-soil c = c.loop-k.invariant.soils ∙ sym (fresh_soils _ _ _ _ _ c.requires)

@@ -1,4 +1,3 @@
-use Rattle.std.proofs.Common.{◌-◌, ◌/◌, length}
 use Rattle.records.specs.Grids.{setup_as}
 use Rattle.records.specs.Past.{state_as}
 use Rattle.recharge.proofs.PeriodLaws.{Underway}
@@ -8,7 +7,3 @@ abbrev pub invariant-loop-k : goal.invariant-loop-k
 invariant-loop-k l =
     Underway (setup_as l.grid l.climate l.covers l.direction l.cover l.group l.available) l.days l.initial.totals (state_as l.soil l.snow l.past) l.sums l.totals
     l.intercepted l.outflow l.evapotranspired l.recharged l.rejected l.k
-
-abbrev pub decreases-loop-k : goal.decreases-loop-k
-decreases-loop-k l =
-    length l.days / 7 - l.k

@@ -5,21 +5,23 @@ use Rattle.retention.proofs.RetentionTable.{filled_none, filled_kept, filled_nex
 use Rattle.retention.proofs.knots.retention.Goals as goal
 
 pub loop-i-init : goal.loop-i-init
-loop-i-init c = (search rules, filled_none)
+loop-i-init c = filled_none
 
 pub loop-i-preserved : goal.loop-i-preserved
-loop-i-preserved c = (search rules, filled_kept _ _ _ c.loop-i-test.true c.kept_entries-kept.ensures c.loop-i.invariant.1)
+loop-i-preserved c = filled_kept _ _ _ c.loop-i-test.true c.kept_entries-kept.ensures c.loop-i.invariant
 
 pub loop-i-2-init : goal.loop-i-2-init
-loop-i-2-init c = (search rules, c.loop-i.invariant.1)
+loop-i-2-init c =
+    let all : c.loop-i.i ≡ 128 = omega (arith, c.loop-i-test.false, c.loop-i.auto.i-end) in
+    rw all at c.loop-i.invariant
 
 pub loop-i-2-preserved : goal.loop-i-2-preserved
 loop-i-2-preserved c =
     let s = c.loop-i-2 in
-    (search rules, filled_next _ _ _ s.invariant.0 (omega (arith, c.loop-i-2-test.true)) s.invariant.1 c.next.ensures)
+    filled_next _ _ _ s.auto.i (omega (arith, c.loop-i-2-test.true)) s.invariant c.next.ensures
 
 pub returns : goal.returns
 returns c =
     let s = c.loop-i-2 in
-    let whole : s.i ≡ 2048 = omega (arith, s.invariant.1.far, c.loop-i-2-test.false) in
-    filled_whole _ _ c.kept_entries-kept.ensures (rw whole at s.invariant.1)
+    let whole : s.i ≡ 2048 = omega (arith, s.invariant.far, c.loop-i-2-test.false) in
+    filled_whole _ _ c.kept_entries-kept.ensures (rw whole at s.invariant)
