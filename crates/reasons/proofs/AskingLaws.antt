@@ -15,10 +15,17 @@ use Rattle.theory.proofs.ListLaws.{made_length, made_of, over_length}
 use Rattle.paper.specs.Limits.{within}
 use Rattle.paper.specs.Setup.{Setup, cells}
 use Rattle.paper.specs.State.{State, Day}
-use Rattle.paper.specs.Refusals.{Refusal, number_of, cell_numbers, Verdict, accepted, refused, verdict_number, Test, verdict, single, setup_lengths, lent_first, table_tests, flow_tests, map_tests, setup_tests, day_tests}
+use Rattle.paper.specs.Refusals.{Refusal, grid, lent, cover_table, cell_numbers, ring, climate, day_record, serial_gap, state_at, snowfall, number_of, Verdict, accepted, refused, verdict_number, Test, verdict, single, setup_lengths, lent_first, table_tests, flow_tests, map_tests, setup_tests, day_tests}
 use Rattle.paper.specs.Reasons.{why_tests}
 use Rattle.paper.proofs.RefusalLaws.{pass_single, fail_single, accepted_then, refused_then, Numbered, numbered_front, numbered_rest, number_within, day_numbered}
-use Rattle.reasons.specs.Asked.{asked_of, Copied}
+use Rattle.std.specs.Prelude.{Result, Ok, Err}
+use Rattle.paper.specs.Day.{Results, Totals, Outcome, no_totals}
+use Rattle.records.specs.Past.{state_as}
+use Rattle.records.specs.Answers.{totals_as, outcome_as}
+use Rattle.records.specs.declared.answers.Totals as code-totals
+use Rattle.records.specs.declared.past.Past.{Past}
+use Rattle.records.specs.declared.verdicts.Refusal as code
+use Rattle.reasons.specs.Asked.{answered, asked_of, Copied}
 
 pub copied_all : (store copy : List ℕ) → length store ≤ 4096 → copy ≡ made_over (length store) (λ k. get_or store k 0) (replicate 4096 0) → Copied store copy
 unfolding made_over
@@ -30,6 +37,20 @@ copied_all store copy few e =
           rw e (take_at (made (length store) (λ k. get_or store k 0)) (drop (length store) (replicate 4096 0)) (length store) (made_length (length store) _))
           ∙ made_of store 0;
     }
+
+-- a day's outcome, field by field
+abbrev pub totals_told : Result code-totals.Totals code.Refusal → Totals
+totals_told (Ok totals) = totals_as totals
+totals_told (Err why) = no_totals
+
+abbrev pub told : Result code-totals.Totals code.Refusal → List ℕ → List ℕ → Past → Results → Outcome
+told r soil snow past results =
+    record { verdict = answered r; results = results; totals = totals_told r; state = state_as soil snow past }
+
+pub told_is :
+    (r : Result code-totals.Totals code.Refusal) (soil snow : List ℕ) (past : Past) (results : Results) → told r soil snow past results ≡ outcome_as r soil snow past results
+told_is (Ok totals) soil snow past results = refl
+told_is (Err why) soil snow past results = refl
 
 -- the cell asked about, by whether it is in the grid and whether one of tests 1 to 4 refused
 module _ (n cell : ℕ) (v : Verdict) where
@@ -50,6 +71,30 @@ module _ (n cell : ℕ) (v : Verdict) where
 early_number : (why : Refusal) → 1 ≤ number_of why → number_of why ≤ 4 → within 1 4 (verdict_number (refused why)) ≡ true
 unfolding verdict_number
 early_number why least most = and_both _ _ (le-leb 1 (number_of why) least) (le-leb (number_of why) 4 most)
+
+least_number : (why : Refusal) → 1 ≤ number_of why
+unfolding number_of
+least_number grid = omega arith
+least_number lent = omega arith
+least_number (cover_table e) = omega arith
+least_number (cell_numbers i) = omega arith
+least_number (ring i) = omega arith
+least_number climate = omega arith
+least_number day_record = omega arith
+least_number serial_gap = omega arith
+least_number (state_at i) = omega arith
+least_number (snowfall i) = omega arith
+
+pub early_refusal : (v : Verdict) (why : Refusal) → v ≡ refused why → number_of why ≤ 4 → within 1 4 (verdict_number v) ≡ true
+early_refusal v why e most = rw e (early_number why (least_number why) most)
+
+pub late_refusal : (v : Verdict) (why : Refusal) → v ≡ refused why → 4 < number_of why → within 1 4 (verdict_number v) ≡ false
+unfolding verdict_number
+late_refusal v why e more = rw e (and_second (leb 1 (number_of why)) _ (lt-leb (number_of why) 4 more))
+
+pub no_number : (v : Verdict) → v ≡ accepted → within 1 4 (verdict_number v) ≡ false
+unfolding verdict_number
+no_number v e = rw e refl
 
 later_number : (vs : List Test) → Numbered 5 vs → (v : Verdict) → verdict vs ≡ v → within 1 4 (verdict_number v) ≡ false
 unfolding verdict_number

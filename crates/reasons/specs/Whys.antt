@@ -1,20 +1,28 @@
 -- The code's answer as the paper's explanation, and what an explanation says in numbers.
-use Rattle.std.specs.Prelude.{ℕ}
+use Rattle.std.specs.Prelude.{ℕ, Result, Ok, Err}
 use Rattle.paper.specs.Refusals.{Verdict, accepted, refused}
 use Rattle.paper.specs.Reasons as paper
 use Rattle.records.specs.Verdicts.{refusal_as}
+use Rattle.records.specs.declared.verdicts.Refusal.{Refusal}
 use Rattle.reasons.specs.declared.whys.Why.{Why}
-use Rattle.reasons.specs.declared.whys.Why.TheVariants as whys
+use Rattle.reasons.specs.declared.whys.Reason.{Reason}
+use Rattle.reasons.specs.declared.whys.Reason.TheVariants as reasons
 
-abbrev pub why_as : Why → paper.Explanation
-why_as (whys.OpenWater a b) = paper.because paper.open_water a.0 b.0
-why_as (whys.UnderSnow a b) = paper.because paper.under_snow a.0 b.0
-why_as (whys.NoWater a b) = paper.because paper.no_water a.0 b.0
-why_as (whys.BelowPotential a b) = paper.because paper.below_potential a.0 b.0
-why_as (whys.RoomForAll a b) = paper.because paper.room_for_all a.0 b.0
-why_as (whys.AboveLargest a b) = paper.because paper.above_largest a.0 b.0
-why_as (whys.AllRecharged a b) = paper.because paper.all_recharged a.0 b.0
-why_as (whys.Refused why) = paper.by_refusal (refusal_as why)
+abbrev pub reason_as : Reason → paper.Reason
+reason_as reasons.OpenWater = paper.open_water
+reason_as reasons.UnderSnow = paper.under_snow
+reason_as reasons.NoWater = paper.no_water
+reason_as reasons.BelowPotential = paper.below_potential
+reason_as reasons.RoomForAll = paper.room_for_all
+reason_as reasons.AboveLargest = paper.above_largest
+reason_as reasons.AllRecharged = paper.all_recharged
+
+abbrev pub because_as : Why → paper.Explanation
+because_as w = paper.because (reason_as w.reason) w.first.0 w.second.0
+
+abbrev pub why_as : Result Why Refusal → paper.Explanation
+why_as (Ok w) = because_as w
+why_as (Err why) = paper.by_refusal (refusal_as why)
 
 -- 1 to 7, and 0 for a refusal
 unfoldable pub why_number : paper.Explanation → ℕ

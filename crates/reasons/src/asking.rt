@@ -7,12 +7,12 @@ ghost use Rattle.records.specs.Past.{state_as};
 ghost use Rattle.records.specs.Days.{day_as};
 ghost use Rattle.records.specs.Verdicts.{verdict_as};
 ghost use Rattle.reasons.specs.Whys.{why_as};
-ghost use Rattle.reasons.specs.Asked.{asked_of, Copied};
+ghost use Rattle.reasons.specs.Asked.{answered, asked_of, Copied};
 
 use crate::grounds::ground_at;
 use crate::reading::{facts_of, first_true, left_at};
 use crate::whys::Why;
-use records::{Climate, DayRecord, Grid, MOST_CELLS, Past, Refusal, one_each};
+use records::{Climate, DayRecord, Grid, MOST_CELLS, Past, Refusal, Totals, one_each};
 
 // Test 4, of the cells' own numbers.
 const CELL_TEST: u32 = 4;
@@ -32,16 +32,24 @@ pub fn asked(verdict: Result<(), Refusal>, grid: Grid, cell: usize) -> Result<()
     Err(Refusal::CellNumbers(cell))
 }
 
+// Whether a day was accepted, without its totals.
+fn verdict_of(answer: Result<Totals, Refusal>) -> Result<(), Refusal>
+    ensures { verdict_as result ≡ answered answer }
+{
+    match answer {
+        Ok(_) => Ok(()),
+        Err(why) => Err(why),
+    }
+}
+
 // A store at the front of an array, for the day to change in place of the lent one.
 fn copied(store: &[u32]) -> [u32; MOST_CELLS]
     requires { length store.now ≤ 4096 }
     ensures { Copied store.now result }
 {
     let mut copy = [0u32; MOST_CELLS];
-    let mut i = 0;
-    while i < store.len() {
+    for i in 0..store.len() {
         copy[i] = store[i];
-        i += 1;
     }
     copy
 }
@@ -60,20 +68,21 @@ pub fn why(
     past: Past,
     day: DayRecord,
     cell: usize,
-) -> Why
+) -> Result<Why, Refusal>
     ensures { why_as result ≡ why_of
         (setup_as grid climate covers.now direction.now cover.now group.now available.now)
         (state_as soil.now snow.now past) (day_as day) cell }
 {
     if !grid.fits() {
-        return Why::Refused(Refusal::Grid);
+        return Err(Refusal::Grid);
     }
     let n = grid.cells();
     if !one_each(n, &[soil.len(), snow.len()]) {
-        return Why::Refused(Refusal::Lent);
+        return Err(Refusal::Lent);
     }
     let mut held = copied(soil);
     let mut lying = copied(snow);
+    let mut after = past;
     let mut intercepted = [0u32; MOST_CELLS];
     let mut outflow = [0u32; MOST_CELLS];
     let mut evapotranspired = [0u32; MOST_CELLS];
@@ -94,13 +103,10 @@ pub fn why(
         &mut evapotranspired[..n],
         &mut recharged[..n],
         &mut rejected[..n],
-        past,
+        &mut after,
         day,
     );
-    let verdict = answer.verdict;
-    if let Err(refusal) = asked(verdict, grid, cell) {
-        return Why::Refused(refusal);
-    }
+    asked(verdict_of(answer), grid, cell)?;
     let left = left_at(
         &outflow,
         &evapotranspired,
@@ -111,7 +117,5 @@ pub fn why(
         cell,
     );
     let ground = ground_at(covers, cover, group, available, cell);
-    let gross = day.gross;
-    let potential = day.potential;
-    first_true(facts_of(ground, gross, potential, soil[cell], left))
+    Ok(first_true(facts_of(ground, day.gross, day.potential, soil[cell], left)))
 }

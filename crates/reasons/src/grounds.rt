@@ -18,12 +18,10 @@ fn entry_for(covers: &[u32], code: u32) -> usize
     ensures { (result ≡ entry_for covers.now code) × (16 * result ≤ length covers.now) }
 {
     let count = covers.len() / ENTRY_NUMBERS;
-    let mut e = 0;
-    while e < count {
+    for e in 0..count {
         if covers[ENTRY_NUMBERS * e] == code {
             return e;
         }
-        e += 1;
     }
     count
 }

@@ -7,4 +7,4 @@ mod reading;
 mod whys;
 
 pub use asking::{asked, why};
-pub use whys::Why;
+pub use whys::{Reason, Why};

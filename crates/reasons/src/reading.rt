@@ -1,12 +1,12 @@
 // The reason, read back from a cell's figures.
 ghost use Rattle.std.specs.Prelude.{◌≡◌, ℕ, ◌-◌, ◌≤◌, ◌<◌};
 ghost use Rattle.paper.specs.Reasons.{explained};
-ghost use Rattle.reasons.specs.Whys.{why_as};
+ghost use Rattle.reasons.specs.Whys.{because_as};
 ghost use Rattle.reasons.specs.Grounds.{ground_as};
 ghost use Rattle.reasons.specs.Reading.{left_as, left_by, infiltration_from, facts_as, facts_from};
 
 use crate::grounds::Ground;
-use crate::whys::Why;
+use crate::whys::{Reason, Why};
 use records::{Depth, MOST_CELLS, depth};
 
 // What a day left of a cell.
@@ -106,37 +106,50 @@ pub(crate) fn facts_of(
     }
 }
 
+fn because(reason: Reason, first: Depth, second: Depth) -> Why
+    ensures { result ≡ record { reason = reason; first = first; second = second } }
+{
+    Why {
+        reason,
+        first,
+        second,
+    }
+}
+
 // The first true reason. How much of the excess recharged is not asked: where the six before it are false, all of it did.
 pub(crate) fn first_true(facts: Facts) -> Why
-    ensures { (recharged : ℕ) → why_as result ≡ explained (facts_as facts recharged) }
+    ensures { (recharged : ℕ) → because_as result ≡ explained (facts_as facts recharged) }
 {
-    let water = facts.water;
-    let snow = facts.end_snow;
-    let infiltration = facts.infiltration;
-    let potential = facts.potential;
-    let surplus = facts.surplus;
-    let room = facts.room;
-    let excess = facts.excess;
-    let largest = facts.largest;
-    if facts.open_water {
-        let gross = facts.gross;
-        let inflow = facts.inflow;
-        return Why::OpenWater(gross, inflow);
+    let Facts {
+        open_water,
+        gross,
+        inflow,
+        water,
+        end_snow: snow,
+        infiltration,
+        potential,
+        surplus,
+        room,
+        excess,
+        largest,
+    } = facts;
+    if open_water {
+        return because(Reason::OpenWater, gross, inflow);
     }
     if water.0 == 0 {
         if 0 < snow.0 {
-            return Why::UnderSnow(water, snow);
+            return because(Reason::UnderSnow, water, snow);
         }
-        return Why::NoWater(water, snow);
+        return because(Reason::NoWater, water, snow);
     }
     if infiltration.0 < potential.0 {
-        return Why::BelowPotential(infiltration, potential);
+        return because(Reason::BelowPotential, infiltration, potential);
     }
     if surplus.0 <= room.0 {
-        return Why::RoomForAll(surplus, room);
+        return because(Reason::RoomForAll, surplus, room);
     }
     if largest.0 < excess.0 {
-        return Why::AboveLargest(excess, largest);
+        return because(Reason::AboveLargest, excess, largest);
     }
-    Why::AllRecharged(excess, largest)
+    because(Reason::AllRecharged, excess, largest)
 }

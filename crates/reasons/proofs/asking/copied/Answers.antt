@@ -6,13 +6,15 @@ use Rattle.reasons.proofs.AskingLaws.{copied_all}
 use Rattle.reasons.proofs.asking.copied.Goals as goal
 
 pub loop-i-init : goal.loop-i-init
-loop-i-init c = (search rules, sym (over_none _ _), length-replicate {A = ℕ} 4096 0)
+loop-i-init c = sym (over_none _ _)
 
 pub bounds-copy-i : goal.bounds-copy-i
-bounds-copy-i c = let sized = c.loop-i.invariant.2 in omega arith
+bounds-copy-i c = omega (arith, c.requires, c.loop-i-test.true)
 
 pub loop-i-preserved : goal.loop-i-preserved
-loop-i-preserved c = (search rules, wrote _ _ _ _ _ c.loop-i.invariant.1 refl (rw (length-replicate {A = ℕ} 4096 0) (omega (arith, c.requires))), length-set c.loop-i.copy c.loop-i.i (get_or c.args.store.now c.loop-i.i 0) ∙ c.loop-i.invariant.2)
+loop-i-preserved c = wrote _ _ _ _ _ c.loop-i.invariant refl (rw (length-replicate {A = ℕ} 4096 0) (omega (arith, c.requires, c.loop-i-test.true)))
 
 pub returns : goal.returns
-returns c = let end : c.loop-i.i ≡ length c.args.store.now = omega arith in copied_all _ _ c.requires (rw end at c.loop-i.invariant.1)
+returns c =
+    let end : c.loop-i.i ≡ length c.args.store.now = omega (arith, c.loop-i-test.false, c.loop-i.auto.i-end) in
+    copied_all _ _ c.requires (rw end at c.loop-i.invariant)

@@ -1,6 +1,6 @@
 -- `asking::why` meets its contract: refused by tests 1 and 2 before the day; by the day's own verdict, or as a cell outside the grid; or told, by what the day left of
 -- the cell in the arrays of which it was lent the fronts.
-use Rattle.std.proofs.Common.{true, List, [], ◌∷◌, ◌≡◌, sym, ap, ◌∙◌, ℕ, ◌≤◌, ◌<◌, lt_of_lt_of_le, arith, length, get_or, take, replicate, length-take-le}
+use Rattle.std.proofs.Common.{true, rules, List, [], ◌∷◌, ◌≡◌, sym, ap, ◌∙◌, ℕ, ◌≤◌, ◌<◌, lt_of_lt_of_le, arith, length, get_or, take, replicate, length-take-le}
 use Rattle.paper.specs.Setup.{Setup, cells_of, grid_fits}
 use Rattle.paper.specs.State.{State, Day}
 use Rattle.paper.specs.Refusals.{accepted, one_each}
@@ -10,14 +10,15 @@ use Rattle.records.specs.Grids.{grid_as, setup_as}
 use Rattle.records.specs.Past.{state_as}
 use Rattle.records.specs.Days.{day_as}
 use Rattle.records.specs.Verdicts.{verdict_as}
-use Rattle.records.specs.Answers.{results_as, outcome_as}
+use Rattle.records.specs.Answers.{results_as}
 use Rattle.reasons.specs.Reading.{facts_from}
 use Rattle.reasons.specs.Asked.{asked_of}
+use Rattle.reasons.proofs.AskingLaws.{told, told_is}
 use Rattle.admission.proofs.TestLaws.{two_each}
 use Rattle.stores.proofs.StateLaws.{few_cells}
 use Rattle.reasons.proofs.WhyLaws.{five, zeros_room, zeros_each, why_grid, why_lent, why_refused, why_told, day_accepted, cell_lent, left_is}
 use Rattle.records.specs.declared.grids.Grid.{Grid}
-use Rattle.std.specs.Prelude.{Ok}
+use Rattle.std.specs.Prelude.{Ok, Err}
 use Rattle.reasons.proofs.asking.why.Goals.{After-copied-lying, After-asked}
 use Rattle.reasons.proofs.asking.why.Goals as goal
 
@@ -38,7 +39,7 @@ passed grid n soil snow fits count each =
 module _ (c : goal.After-copied-lying) where
   shown : Passed (cells_of (grid_as c.args.grid)) c.cells-n.result c.args.soil.now c.args.snow.now
   shown =
-      passed _ _ _ _ (sym c.fits.ensures ∙ c.if-not-fits.false) c.cells-n.ensures (sym c.stores_each.ensures ∙ c.if-not-stores_each.false)
+      passed _ _ _ _ (sym c.fits.ensures ∙ c.if-not-fits.false) c.cells-n.ensures (sym c.one_each.ensures ∙ c.if-not-one_each.false)
 
   fronts : c.cells-n.result ≤ length (replicate {A = ℕ} 4096 0)
   fronts = zeros_room c.cells-n.result (rw shown.count shown.few)
@@ -67,7 +68,7 @@ module _ (c : goal.After-asked) where
 
   stand : Passed (cells_of (grid_as c.args.grid)) n c.args.soil.now c.args.snow.now
   stand =
-      passed _ _ _ _ (sym c.fits.ensures ∙ c.if-not-fits.false) c.cells-n.ensures (sym c.stores_each.ensures ∙ c.if-not-stores_each.false)
+      passed _ _ _ _ (sym c.fits.ensures ∙ c.if-not-fits.false) c.cells-n.ensures (sym c.one_each.ensures ∙ c.if-not-one_each.false)
 
   lent : state_as (take n c.copied-held.result) (take n c.copied-lying.result) c.args.past ≡ st
   lent =
@@ -87,14 +88,17 @@ module _ (c : goal.After-asked) where
   abbrev left : Outcome
   left =
       let new = c.day-answer.new in
-      outcome_as c.day-answer.result new.soil new.snow
+      told c.day-answer.result new.soil new.snow new.past
       (results_as new.intercepted new.outflow new.evapotranspired new.recharged new.rejected)
 
   outcome : left ≡ day_of s st none d
-  outcome = c.day-answer.ensures ∙ ap (λ (st : State). day_of s st none d) lent
+  outcome = told_is c.day-answer.result _ _ _ _ ∙ c.day-answer.ensures ∙ ap (λ (st : State). day_of s st none d) lent
 
   asked_is : verdict_as c.asked.result ≡ asked_of (cells_of (grid_as c.args.grid)) c.args.cell (day_of s st none d).verdict
-  asked_is = c.asked.ensures ∙ ap (λ (o : Outcome). asked_of (cells_of (grid_as c.args.grid)) c.args.cell o.verdict) outcome
+  asked_is =
+      c.asked.ensures
+      ∙ ap (asked_of (cells_of (grid_as c.args.grid)) c.args.cell) c.verdict_of.ensures
+      ∙ ap (λ (o : Outcome). asked_of (cells_of (grid_as c.args.grid)) c.args.cell o.verdict) outcome
 
   -- where it accepts, the cell is in the grid
   module _ (taken : c.asked.result ≡ (Ok tt)) where
@@ -114,23 +118,23 @@ returns-then-not-fits c =
     c.args.available.now) (state_as c.args.soil.now c.args.snow.now c.args.past) (day_as c.args.day) c.args.cell
     (sym c.fits.ensures ∙ c.if-not-fits.true)
 
-pub returns-then-not-stores_each : goal.returns-then-not-stores_each
-returns-then-not-stores_each c =
+pub returns-then-not-one_each : goal.returns-then-not-one_each
+returns-then-not-one_each c =
     why_lent
     (setup_as c.args.grid c.args.climate c.args.covers.now c.args.direction.now c.args.cover.now c.args.group.now
     c.args.available.now) (state_as c.args.soil.now c.args.snow.now c.args.past) (day_as c.args.day) c.args.cell
     (sym c.fits.ensures ∙ c.if-not-fits.false)
     (ap (λ (k : ℕ). one_each k (length c.args.soil.now ∷ length c.args.snow.now ∷ [])) (sym c.cells-n.ensures)
-    ∙ sym c.stores_each.ensures ∙ c.if-not-stores_each.true)
+    ∙ sym c.one_each.ensures ∙ c.if-not-one_each.true)
 
 pub copied-held-requires : goal.copied-held-requires
 copied-held-requires c =
-    let p = passed _ _ _ _ (sym c.fits.ensures ∙ c.if-not-fits.false) c.cells-n.ensures (sym c.stores_each.ensures ∙ c.if-not-stores_each.false) in
+    let p = passed _ _ _ _ (sym c.fits.ensures ∙ c.if-not-fits.false) c.cells-n.ensures (sym c.one_each.ensures ∙ c.if-not-one_each.false) in
     rw p.soils p.few
 
 pub copied-lying-requires : goal.copied-lying-requires
 copied-lying-requires c =
-    let p = passed _ _ _ _ (sym c.fits.ensures ∙ c.if-not-fits.false) c.cells-n.ensures (sym c.stores_each.ensures ∙ c.if-not-stores_each.false) in
+    let p = passed _ _ _ _ (sym c.fits.ensures ∙ c.if-not-fits.false) c.cells-n.ensures (sym c.one_each.ensures ∙ c.if-not-one_each.false) in
     rw p.snows p.few
 
 pub slice_bounds-held-end : goal.slice_bounds-held-end
@@ -175,31 +179,33 @@ slice_bounds-rejected-end c = fronts (goal.at.slice_bounds-rejected-end c).After
 pub slice_bounds-day-end-7 : goal.slice_bounds-day-end-7
 slice_bounds-day-end-7 c = sym (length-take-le _ _ (fronts (goal.at.slice_bounds-day-end-7 c).After-copied-lying))
 
-pub returns-in-Err : goal.returns-in-Err
-returns-in-Err c =
-    let day = (goal.at.returns-in-Err c).After-asked in
-    why_refused (s day) (st day) (d day) c.args.cell (none day) (none_each day) _ (sym (asked_is day) ∙ ap verdict_as c.in-Err.is)
+pub returns-in_err-asked : goal.returns-in_err-asked
+returns-in_err-asked c =
+    let day = (goal.at.returns-in_err-asked c).After-asked in
+    let why = c.in_err-asked.field-0.0 in
+    let same : c.from_residual.result ≡ Err why = search rules in
+    rw same (why_refused (s day) (st day) (d day) c.args.cell (none day) (none_each day) _ (sym (asked_is day) ∙ ap verdict_as c.in_err-asked.was))
 
 pub left_at-left-requires : goal.left_at-left-requires
-left_at-left-requires c = small (goal.at.left_at-left-requires c).After-asked c.in_default.is
+left_at-left-requires c = small (goal.at.left_at-left-requires c).After-asked c.in_ok-asked.was
 
 pub ground_at-ground-requires : goal.ground_at-ground-requires
 ground_at-ground-requires c =
     let day = (goal.at.ground_at-ground-requires c).After-asked in
-    cell_lent (s day) (st day) (d day) c.args.cell (none day) (none_each day) (accepts day c.in_default.is)
+    cell_lent (s day) (st day) (d day) c.args.cell (none day) (none_each day) (accepts day c.in_ok-asked.was)
 
 pub offset_bounds-soil-cell : goal.offset_bounds-soil-cell
-offset_bounds-soil-cell c = omega (arith, small (goal.at.offset_bounds-soil-cell c).After-asked c.in_default.is)
+offset_bounds-soil-cell c = omega (arith, small (goal.at.offset_bounds-soil-cell c).After-asked c.in_ok-asked.was)
 
 pub bounds-soil-cell : goal.bounds-soil-cell
 bounds-soil-cell c =
     let day = (goal.at.bounds-soil-cell c).After-asked in
-    rw (stand day).soils (inside day c.in_default.is)
+    rw (stand day).soils (inside day c.in_ok-asked.was)
 
 pub returns : goal.returns
 returns c =
     let day = (goal.at.returns c).After-asked in
-    let taken = accepts day c.in_default.is in
+    let taken = accepts day c.in_ok-asked.was in
     let ok = day_accepted (s day) (st day) (d day) c.args.cell (none day) (none_each day) taken in
     let ground = c.ground_at-ground.ensures in
     let stood = c.left_at-left.ensures ∙ left_is (s day) (st day) (none day) (d day) c.args.cell ok.1 ok.0 (left day) (outcome day) _ _ _ _ _ _ in

@@ -5,15 +5,15 @@ use Rattle.reasons.proofs.GroundLaws.{entry_found, entry_none}
 use Rattle.reasons.proofs.grounds.entry_for.Goals as goal
 
 pub loop-e-init : goal.loop-e-init
-loop-e-init c = (search rules, search rules, λ j h. absurd (not-suc-le-zero h))
+loop-e-init c = λ j h. absurd (not-suc-le-zero h)
 
 pub returns-then-covers-e : goal.returns-then-covers-e
 unfolding entries
-returns-then-covers-e c = (entry_found _ _ _ c.loop-e.invariant.2 (omega arith) (eq-eqb _ _ c.if-covers-e.true), omega arith)
+returns-then-covers-e c = (entry_found _ _ _ c.loop-e.invariant (omega arith) (eq-eqb _ _ c.if-covers-e.true), omega arith)
 
 pub loop-e-preserved : goal.loop-e-preserved
-loop-e-preserved c = (search rules, search rules, below_more _ _ c.loop-e.invariant.2 (ne_eqb _ _ c.if-covers-e.false))
+loop-e-preserved c = below_more _ _ c.loop-e.invariant (ne_eqb _ _ c.if-covers-e.false)
 
 pub returns : goal.returns
 unfolding entries
-returns c = (c.loop-e.invariant.0 ∙ entry_none _ _ _ c.loop-e.invariant.2 (omega arith), omega arith)
+returns c = (entry_none _ _ _ c.loop-e.invariant (omega arith), omega arith)
