@@ -8,39 +8,81 @@ use native.Mathlib.Nat.{add-zero, zero-add}
 use native.Mathlib.Numerals.{add-one}
 use native.Mathlib.Omega.{arith}
 use lib.Dec.{ltb}
-use lib.IntN.{ℤ, pos, negsuc}
+use lib.IntN.{ℤ, pos, negsuc, nat_abs}
+use lib.Signed.{lt_z}
+use mir.Facts.{to_z-of_z}
+use mir.Syntax.{w32}
+use mir.Val.{to_z, of_z}
 use lib.ListN.{length, get_or, take, drop, set, drop_of_length-le}
 use lib.Seq.{sets, sets-eq, take_at}
-use borrow.Author.Tests.{lt-ltb, le-ltb}
+use borrow.Author.Tests.{lt-ltb, le-ltb, ltb-true}
 use Rattle.theory.proofs.Cases.{by_cases}
 use Rattle.words.specs.Words.{pieces, kept, words}
-use Rattle.words.specs.Numbers.{Word, good, bad, number, meaning_in}
+use Rattle.words.specs.Numbers.{Word, good, bad, number, number_in}
 use Rattle.words.specs.Spans.{part, NextWord}
-use Rattle.words.specs.declared.numbers.Meaning.TheVariants.{Plain, Below, Bad}
 use Rattle.words.proofs.NumberLaws.{NineDigits, Small, number_small}
 use Rattle.words.proofs.WordLaws.{words_few}
 use Rattle.lines.specs.Reading.{Reading, and_then, meant, reading, most_bytes, given, negatives, code, codes, signed, no_number, code_of, most_numbers, form_in, Read}
-use Rattle.lines.specs.declared.reading.Form.{Form}
-use Rattle.lines.specs.declared.reading.Form.TheVariants.{Whole, Broken}
+use Rattle.lines.specs.declared.reading.BadForm.{BadForm}
+use Rattle.std.specs.Prelude.{Some, None, Result, Ok, Err}
 
--- a word's code, by its meaning
-pub code_plain : (m : Word) (n : ℕ) → meaning_in m ≡ Plain n → n ≡ code_of m
-unfolding meaning_in code_of code
-code_plain (good (pos k)) n e = cc
-code_plain (good (negsuc k)) n e = absurd (let z : ◌≡◌ {A = ℕ} 0 1 = cc in omega arith)
-code_plain bad n e = absurd (let z : ◌≡◌ {A = ℕ} 0 1 = cc in omega arith)
+-- a word's code, by its number
+pub code_none : (m : Word) → None ≡ number_in m → no_number ≡ code_of m
+unfolding number_in code_of
+code_none (good z) e = absurd (let z : ◌≡◌ {A = ℕ} 0 1 = cc in omega arith)
+code_none bad e = refl
 
-pub code_below : (m : Word) (n : ℕ) → meaning_in m ≡ Below n → negatives + n ≡ code_of m
-unfolding meaning_in code_of code
-code_below (good (pos k)) n e = absurd (let z : ◌≡◌ {A = ℕ} 0 1 = cc in omega arith)
-code_below (good (negsuc k)) n e = cc
-code_below bad n e = absurd (let z : ◌≡◌ {A = ℕ} 0 1 = cc in omega arith)
+number_only : (m : Word) (z : ℤ) → Some z ≡ number_in m → m ≡ good z
+unfolding number_in
+number_only (good y) z e = let same : y ≡ z = cc in ap good same
+number_only bad z e = absurd (let z : ◌≡◌ {A = ℕ} 0 1 = cc in omega arith)
 
-pub code_bad : (m : Word) → meaning_in m ≡ Bad → no_number ≡ code_of m
-unfolding meaning_in code_of
-code_bad (good (pos k)) e = absurd (let z : ◌≡◌ {A = ℕ} 0 1 = cc in omega arith)
-code_bad (good (negsuc k)) e = absurd (let z : ◌≡◌ {A = ℕ} 0 1 = cc in omega arith)
-code_bad bad e = refl
+nine_size : (z : ℤ) → NineDigits z → nat_abs z < negatives
+unfolding NineDigits
+nine_size (pos n) s = s
+nine_size (negsuc m) s = s
+
+size_plain : (z : ℤ) → lt_z z (pos 0) ≡ false → nat_abs z ≡ code z
+unfolding code
+size_plain (pos n) h = refl
+size_plain (negsuc m) h = absurd (let o : ◌≡◌ {A = ℕ} 0 1 = cc in omega arith)
+
+size_below : (z : ℤ) → lt_z z (pos 0) ≡ true → negatives + nat_abs z ≡ code z
+unfolding code
+size_below (pos n) h = absurd (omega (arith, ltb-true n 0 h))
+size_below (negsuc m) h = refl
+
+-- a number has nine digits, so as it is held it is itself
+held : (z : ℤ) → NineDigits z → to_z w32 (of_z w32 z) ≡ z
+unfolding NineDigits
+held (pos n) s = to_z-of_z {w = w32} {z = pos n} (record { sfits = omega (arith, s) })
+held (negsuc m) s = to_z-of_z {w = w32} {z = negsuc m} (record { sfits = omega (arith, s) })
+
+module _ (m : Word) (z : ℤ) (small : Small m) (e : Some z ≡ number_in m) where
+  is_number : m ≡ good z
+  unfolding number_in
+  is_number = number_only m z e
+
+  nine : NineDigits z
+  unfolding Small
+  nine = rw is_number at small
+
+  abbrev size : ℕ
+  size = nat_abs (to_z w32 (of_z w32 z))
+
+  abbrev below : Bool
+  below = lt_z (to_z w32 (of_z w32 z)) (pos 0)
+
+  pub size_small : size < negatives
+  size_small = rw (held z nine) (nine_size z nine)
+
+  pub code_plain : below ≡ false → size ≡ code_of m
+  unfolding code_of
+  code_plain h = rw is_number (rw (held z nine) (size_plain z (rw (held z nine) at h)))
+
+  pub code_below : below ≡ true → negatives + size ≡ code_of m
+  unfolding code_of
+  code_below h = rw is_number (rw (held z nine) (size_below z (rw (held z nine) at h)))
 
 code_small : (z : ℤ) → Small (good z) → code z < no_number
 unfolding Small NineDigits code
@@ -105,16 +147,16 @@ all_read input before numbers count whole most l =
     record { form = rw (l.whole, n) refl; numbers = sym l.stored; few = rw n most }
 
 module _ (input before numbers : List ℕ) (count from : ℕ) (s : Stands input before numbers count from) where
-  no_more : words (drop from input) ≡ [] → Read (reading input) before numbers (Whole count)
+  no_more : words (drop from input) ≡ [] → Read (reading input) before numbers (Ok count)
   unfolding form_in reading meant
   no_more e = all_read input before numbers count true (omega (arith, s.room)) (rw e at s.left)
 
-  pub text_end : length input ≤ from → Read (reading input) before numbers (Whole count)
+  pub text_end : length input ≤ from → Read (reading input) before numbers (Ok count)
   unfolding words pieces kept
   text_end h = no_more (rw (drop_of_length-le input {i = from} h) refl)
 
   module _ (start end : ℕ) (next : NextWord input from start end) where
-    pub blanks_end : end ≤ start → Read (reading input) before numbers (Whole count)
+    pub blanks_end : end ≤ start → Read (reading input) before numbers (Ok count)
     blanks_end h = no_more (next.none h)
 
     module _ (more : start < end) where
@@ -139,24 +181,24 @@ module _ (input before numbers : List ℕ) (count from : ℕ) (s : Stands input 
             room = omega (arith, s.room, ahead);
           }
 
-      pub bad_end : (c : ℕ) → c ≡ code_of (number word) → no_number ≤ c → Read (reading input) before numbers (Broken count)
+      pub bad_end : (c : ℕ) → c ≡ code_of (number word) → no_number ≤ c → Read (reading input) before numbers (Err (record { 0 = count }))
       unfolding form_in
       bad_end c e h =
           all_read input before numbers count false (omega (arith, s.room))
           (bad_word before (reading input) numbers count (number word) (reading (drop end input)) c (number_small word) e h (rw onward at s.left))
 
 -- of a text that is too long nothing is read
-pub read_short : (input before after : List ℕ) (r : Form) → length input ≤ most_bytes → Read (reading input) before after r → Read (given input) before after r
+pub read_short : (input before after : List ℕ) (r : Result ℕ BadForm) → length input ≤ most_bytes → Read (reading input) before after r → Read (given input) before after r
 unfolding given
 read_short input before after r h read = rw (le-ltb most_bytes (length input) h) read
 
-pub read_none : (input before : List ℕ) → most_bytes < length input → Read (given input) before before (Broken 0)
+pub read_none : (input before : List ℕ) → most_bytes < length input → Read (given input) before before (Err (record { 0 = 0 }))
 unfolding given form_in codes
 read_none input before h = rw (lt-ltb most_bytes (length input) h) (record { form = refl; numbers = refl; few = zero-le })
 
 -- the numbers that were read are the front of the lent ones
 pub front :
-    (all : Reading) (before numbers : List ℕ) (r : Form) → length before ≡ most_numbers → Read all before numbers r
+    (all : Reading) (before numbers : List ℕ) (r : Result ℕ BadForm) → length before ≡ most_numbers → Read all before numbers r
     → take (length all.numbers) numbers ≡ codes all.numbers
 front all before numbers r long read =
     let zs = all.numbers in

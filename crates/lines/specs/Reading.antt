@@ -1,10 +1,9 @@
 -- The input's numbers: those of its words before the first that is none, held as their codes.
-use Rattle.std.specs.Prelude.{Bool, true, false, cond, List, [], ◌∷◌, ◌≡◌, ℕ, suc, ◌+◌, ◌-◌, ◌≤◌, ltb, ℤ, pos, negsuc, length}
+use Rattle.std.specs.Prelude.{Bool, true, false, cond, List, [], ◌∷◌, ◌≡◌, ℕ, suc, ◌+◌, ◌-◌, ◌≤◌, ltb, ℤ, pos, negsuc, length, Result, Ok, Err}
 use Rattle.std.proofs.lemmas.List.Edits.{sets}
 use Rattle.words.specs.Words.{words}
 use Rattle.words.specs.Numbers.{Word, good, bad, number}
-use Rattle.lines.specs.declared.reading.Form.{Form}
-use Rattle.lines.specs.declared.reading.Form.TheVariants.{Whole, Broken}
+use Rattle.lines.specs.declared.reading.BadForm.{BadForm}
 
 -- the numbers before the first bad word, and whether there is none
 pub record Reading : Type 0 where
@@ -57,12 +56,13 @@ code_of bad = no_number
 abbrev pub most_numbers : ℕ
 most_numbers = 32768
 
-unfoldable pub form_in : Bool → ℕ → Form
-form_in true n = Whole n
-form_in false n = Broken n
+-- the count of all numbers, or of those before the first bad word
+unfoldable pub form_in : Bool → ℕ → Result ℕ BadForm
+form_in true n = Ok n
+form_in false n = Err (record { 0 = n })
 
 -- the codes of all that was read stand at the front of the lent numbers, which have room for them, and the others are as lent
-pub record Read (all : Reading) (before after : List ℕ) (r : Form) : Type 0 where
+pub record Read (all : Reading) (before after : List ℕ) (r : Result ℕ BadForm) : Type 0 where
   pub form : r ≡ form_in all.whole (length all.numbers)
   pub numbers : after ≡ sets before 0 (codes all.numbers)
   pub few : length all.numbers ≤ most_numbers

@@ -5,6 +5,6 @@ mod reading;
 mod telling;
 mod writing;
 
-pub use reading::{BAD_TEXT, Form, MOST_BYTES, MOST_NUMBERS, NEGATIVES, NO_NUMBER, read};
-pub use telling::{Told, tell};
+pub use reading::{BAD_TEXT, BadForm, MOST_BYTES, MOST_NUMBERS, NEGATIVES, NO_NUMBER, read};
+pub use telling::tell;
 pub use writing::{ended, line, refusal, refused, units};

@@ -3,14 +3,11 @@ ghost use Rattle.std.specs.Prelude.{◌≡◌, ◌≤◌, length};
 ghost use Rattle.words.specs.Numbers.{number as number_of};
 ghost use Rattle.lines.specs.Reading.{reading, most_bytes, given, code_of, Read};
 
-use words::{Meaning, next_word, number};
+use words::{next_word, number};
 
-// The count of the numbers: of all, or of those before the first bad word.
-#[derive(Clone, Copy)]
-pub enum Form {
-    Whole(usize),
-    Broken(usize),
-}
+// A word that is no number, or a text that is too long: how many numbers stand before it.
+#[derive(Clone, Copy, PartialEq, Eq)]
+pub struct BadForm(pub usize);
 
 // Past this number stand the codes of the numbers below zero.
 pub const NEGATIVES: u32 = 1000000000;
@@ -31,15 +28,17 @@ pub const MOST_NUMBERS: usize = 32768;
 fn code(word: &[u8]) -> u32
     ensures { result ≡ code_of (number_of word.now) }
 {
-    match number(word) {
-        Meaning::Plain(n) => n,
-        Meaning::Below(n) => NEGATIVES + n,
-        Meaning::Bad => NO_NUMBER,
+    let Some(n) = number(word) else {
+        return NO_NUMBER;
+    };
+    if n < 0 {
+        return NEGATIVES + n.unsigned_abs();
     }
+    n.unsigned_abs()
 }
 
 // Word after word, each number's code after those before it.
-fn gather(input: &[u8], numbers: &mut [u32; MOST_NUMBERS]) -> Form
+fn gather(input: &[u8], numbers: &mut [u32; MOST_NUMBERS]) -> Result<usize, BadForm>
     requires { length input.now ≤ most_bytes }
     ensures { Read (reading input.now) numbers.old numbers.new result }
 {
@@ -50,25 +49,25 @@ fn gather(input: &[u8], numbers: &mut [u32; MOST_NUMBERS]) -> Form
         let start = word.start;
         let end = word.end;
         if end <= start {
-            return Form::Whole(count);
+            return Ok(count);
         }
         let c = code(&input[start..end]);
         if NO_NUMBER <= c {
-            return Form::Broken(count);
+            return Err(BadForm(count));
         }
         numbers[count] = c;
         count += 1;
         from = end;
     }
-    Form::Whole(count)
+    Ok(count)
 }
 
-// The numbers of a text; of one that is too long none.
-pub fn read(input: &[u8], numbers: &mut [u32; MOST_NUMBERS]) -> Form
+// The numbers of a text, and their count; of one that is too long none.
+pub fn read(input: &[u8], numbers: &mut [u32; MOST_NUMBERS]) -> Result<usize, BadForm>
     ensures { Read (given input.now) numbers.old numbers.new result }
 {
     if MOST_BYTES < input.len() {
-        return Form::Broken(0);
+        return Err(BadForm(0));
     }
     gather(input, numbers)
 }

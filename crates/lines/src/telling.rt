@@ -1,25 +1,22 @@
 // A day's line, or its refusal.
-ghost use Rattle.records.specs.Verdicts.{verdict_as};
-ghost use Rattle.records.specs.Answers.{totals_as};
+ghost use Rattle.records.specs.Answers.{answered, totals_told};
 ghost use Rattle.lines.specs.Telling.{Tells};
 
 use crate::writing::{line, refusal};
-use records::{Answer};
+use records::{Refusal, Totals};
+use std::ops::ControlFlow;
 
-// The place after what a day printed, and whether the run goes on.
-#[derive(Clone, Copy)]
-pub enum Told {
-    More(usize),
-    Last(usize),
-}
-
-pub fn tell(output: &mut [u8], at: usize, serial: u32, answer: Answer) -> Told
-    ensures { Tells at serial (totals_as answer.totals) (verdict_as answer.verdict) output.old output.new result }
+// The place after what a day printed: the run goes on, or breaks off there.
+pub fn tell(
+    output: &mut [u8],
+    at: usize,
+    serial: u32,
+    answer: Result<Totals, Refusal>,
+) -> ControlFlow<usize, usize>
+    ensures { Tells at serial (totals_told answer) (answered answer) output.old output.new result }
 {
-    let verdict = answer.verdict;
-    let totals = answer.totals;
-    match verdict {
-        Ok(()) => Told::More(line(output, at, serial, totals)),
-        Err(why) => Told::Last(refusal(output, at, why)),
+    match answer {
+        Ok(totals) => ControlFlow::Continue(line(output, at, serial, totals)),
+        Err(why) => ControlFlow::Break(refusal(output, at, why)),
     }
 }

@@ -18,14 +18,7 @@ use Rattle.paper.specs.State.{State, Day}
 use Rattle.paper.specs.Refusals.{Refusal, grid, lent, cover_table, cell_numbers, ring, climate, day_record, serial_gap, state_at, snowfall, number_of, Verdict, accepted, refused, verdict_number, Test, verdict, single, setup_lengths, lent_first, table_tests, flow_tests, map_tests, setup_tests, day_tests}
 use Rattle.paper.specs.Reasons.{why_tests}
 use Rattle.paper.proofs.RefusalLaws.{pass_single, fail_single, accepted_then, refused_then, Numbered, numbered_front, numbered_rest, number_within, day_numbered}
-use Rattle.std.specs.Prelude.{Result, Ok, Err}
-use Rattle.paper.specs.Day.{Results, Totals, Outcome, no_totals}
-use Rattle.records.specs.Past.{state_as}
-use Rattle.records.specs.Answers.{totals_as, outcome_as}
-use Rattle.records.specs.declared.answers.Totals as code-totals
-use Rattle.records.specs.declared.past.Past.{Past}
-use Rattle.records.specs.declared.verdicts.Refusal as code
-use Rattle.reasons.specs.Asked.{answered, asked_of, Copied}
+use Rattle.reasons.specs.Asked.{asked_of, Copied}
 
 pub copied_all : (store copy : List ℕ) → length store ≤ 4096 → copy ≡ made_over (length store) (λ k. get_or store k 0) (replicate 4096 0) → Copied store copy
 unfolding made_over
@@ -37,20 +30,6 @@ copied_all store copy few e =
           rw e (take_at (made (length store) (λ k. get_or store k 0)) (drop (length store) (replicate 4096 0)) (length store) (made_length (length store) _))
           ∙ made_of store 0;
     }
-
--- a day's outcome, field by field
-abbrev pub totals_told : Result code-totals.Totals code.Refusal → Totals
-totals_told (Ok totals) = totals_as totals
-totals_told (Err why) = no_totals
-
-abbrev pub told : Result code-totals.Totals code.Refusal → List ℕ → List ℕ → Past → Results → Outcome
-told r soil snow past results =
-    record { verdict = answered r; results = results; totals = totals_told r; state = state_as soil snow past }
-
-pub told_is :
-    (r : Result code-totals.Totals code.Refusal) (soil snow : List ℕ) (past : Past) (results : Results) → told r soil snow past results ≡ outcome_as r soil snow past results
-told_is (Ok totals) soil snow past results = refl
-told_is (Err why) soil snow past results = refl
 
 -- the cell asked about, by whether it is in the grid and whether one of tests 1 to 4 refused
 module _ (n cell : ℕ) (v : Verdict) where

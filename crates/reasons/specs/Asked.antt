@@ -1,15 +1,7 @@
 -- The cell asked about among the tests, and the stores copied.
-use Rattle.std.specs.Prelude.{Result, Ok, Err, cond, List, ◌≡◌, ℕ, ◌≤◌, ltb, length, take}
+use Rattle.std.specs.Prelude.{cond, List, ◌≡◌, ℕ, ◌≤◌, ltb, length, take}
 use Rattle.paper.specs.Limits.{within}
-use Rattle.paper.specs.Refusals.{cell_numbers, Verdict, accepted, refused, verdict_number}
-use Rattle.records.specs.Verdicts.{refusal_as}
-use Rattle.records.specs.declared.verdicts.Refusal.{Refusal}
-use Rattle.records.specs.declared.answers.Totals.{Totals}
-
--- whether an answer accepts
-abbrev pub answered : Result Totals Refusal → Verdict
-answered (Ok totals) = accepted
-answered (Err why) = refused (refusal_as why)
+use Rattle.paper.specs.Refusals.{cell_numbers, Verdict, refused, verdict_number}
 
 -- a cell outside the grid is 4 at its number, unless one of tests 1 to 4 has refused before
 unfoldable pub asked_of : ℕ → ℕ → Verdict → Verdict

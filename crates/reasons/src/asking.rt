@@ -7,7 +7,8 @@ ghost use Rattle.records.specs.Past.{state_as};
 ghost use Rattle.records.specs.Days.{day_as};
 ghost use Rattle.records.specs.Verdicts.{verdict_as};
 ghost use Rattle.reasons.specs.Whys.{why_as};
-ghost use Rattle.reasons.specs.Asked.{answered, asked_of, Copied};
+ghost use Rattle.records.specs.Answers.{answered};
+ghost use Rattle.reasons.specs.Asked.{asked_of, Copied};
 
 use crate::grounds::ground_at;
 use crate::reading::{facts_of, first_true, left_at};

@@ -5,11 +5,11 @@ use Prim.Native.Nat.{ℕ}
 use native.Mathlib.Omega.{arith}
 use Rattle.paper.specs.State as state
 use Rattle.paper.specs.Day as paper
-use Rattle.records.specs.Past.{last_as, past_as}
+use Rattle.records.specs.Past.{last_as, past_as, state_as}
 use Rattle.paper.specs.Refusals.{accepted, refused}
 use Rattle.paper.specs.Refusals as paper-refusals
 use Rattle.records.specs.Verdicts.{refusal_as, refusal_in}
-use Rattle.records.specs.Answers.{fresh_as, outcome_as}
+use Rattle.records.specs.Answers.{answered, totals_told, fresh_as, outcome_as}
 use Rattle.std.specs.Prelude.{Option, Some, None, Result, Ok, Err}
 use Rattle.records.specs.declared.past.Past.{Past}
 use Rattle.records.specs.declared.answers.Totals.{Totals}
@@ -55,6 +55,14 @@ totals_in t =
       gone = record { 0 = t.gone };
       stored = record { 0 = t.stored };
     }
+
+-- a day's outcome, field by field
+abbrev pub told : Result Totals Refusal → List ℕ → List ℕ → Past → paper.Results → paper.Outcome
+told r soil snow past results = record { verdict = answered r; results = results; totals = totals_told r; state = state_as soil snow past }
+
+pub told_is : (r : Result Totals Refusal) (soil snow : List ℕ) (past : Past) (results : paper.Results) → told r soil snow past results ≡ outcome_as r soil snow past results
+told_is (Ok totals) soil snow past results = refl
+told_is (Err why) soil snow past results = refl
 
 -- two refusals of the paper that are one, and what no acceptance says
 same_refusal : (why w : Refusal) → refused (refusal_as why) ≡ refused (refusal_as w) → why ≡ w

@@ -1,7 +1,7 @@
 -- What the calls hand back, as the paper's.
 use Rattle.std.specs.Prelude.{List, ℕ, Result, Ok, Err}
 use Rattle.paper.specs.State.{no_past}
-use Rattle.paper.specs.Refusals.{accepted, refused}
+use Rattle.paper.specs.Refusals.{Verdict, accepted, refused}
 use Rattle.paper.specs.Day as paper
 use Rattle.records.specs.Past.{state_as}
 use Rattle.records.specs.Verdicts.{refusal_as}
@@ -36,6 +36,15 @@ results_as intercepted outflow evapotranspired recharged rejected =
       recharged = recharged;
       rejected = rejected;
     }
+
+-- a day's verdict and totals: refused, it has none
+abbrev pub answered : Result Totals Refusal → Verdict
+answered (Ok totals) = accepted
+answered (Err why) = refused (refusal_as why)
+
+abbrev pub totals_told : Result Totals Refusal → paper.Totals
+totals_told (Ok totals) = totals_as totals
+totals_told (Err why) = paper.no_totals
 
 -- a day's answer with the lent stores, past and results as it left them: refused, it has no totals
 abbrev pub outcome_as : Result Totals Refusal → List ℕ → List ℕ → Past → paper.Results → paper.Outcome

@@ -13,7 +13,7 @@ use Rattle.records.specs.Verdicts.{verdict_as}
 use Rattle.records.specs.Answers.{results_as}
 use Rattle.reasons.specs.Reading.{facts_from}
 use Rattle.reasons.specs.Asked.{asked_of}
-use Rattle.reasons.proofs.AskingLaws.{told, told_is}
+use Rattle.records.proofs.AnswerLaws.{told, told_is}
 use Rattle.admission.proofs.TestLaws.{two_each}
 use Rattle.stores.proofs.StateLaws.{few_cells}
 use Rattle.reasons.proofs.WhyLaws.{five, zeros_room, zeros_each, why_grid, why_lent, why_refused, why_told, day_accepted, cell_lent, left_is}
