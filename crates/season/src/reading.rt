@@ -43,6 +43,7 @@ fn store(days: &mut [i32], place: usize, number: i32)
 }
 
 // How many days so many numbers are, where the list holds so many.
+#[tactic(auto, unfolding(crate::specs::Reading::days_in))]
 fn days_in(count: usize, room: usize) -> Result<usize, WeatherError>
     ensures { result ≡ days_in count room }
 {
