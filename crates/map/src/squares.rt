@@ -19,10 +19,9 @@ fn write_square(page: &mut Page, cell: Cell) -> fmt::Result {
     let column = column.saturating_add(1);
     write!(page, "Row {row}, column {column}, cell {number}: ")?;
     match cell.mark {
-        Mark::OpenWater => write!(page, "open water")?,
-        Mark::Land(_) => write!(page, "{} inches", Inches(cell.recharge))?,
+        Mark::OpenWater => writeln!(page, "open water</title></path>"),
+        Mark::Land(_) => writeln!(page, "{} inches</title></path>", Inches(cell.recharge)),
     }
-    writeln!(page, "</title></path>")
 }
 
 fn write_squares(page: &mut Page, cells: &Cells) -> fmt::Result {
