@@ -30,7 +30,7 @@ fn write_top(page: &mut Page, frame: Frame, classes: usize) -> fmt::Result {
 }
 
 // Each cell has its mark.
-fn write_marked(
+fn write_map(
     page: &mut Page,
     frame: Frame,
     cells: &Cells,
@@ -45,18 +45,21 @@ fn write_marked(
     writeln!(page, "</svg>")
 }
 
-// With a place for each cell's mark.
-fn write_unmarked(
-    page: &mut Page,
-    frame: Frame,
+// Written from the front of the text on; where all of it would end is returned. Numbers that are not there are 0.
+pub fn put_map(
+    text: &mut [u8],
+    grid: Grid,
     covers: &[u32],
     direction: &[u32],
     cover: &[u32],
     recharged: &[u64],
     days: &[i32],
-    marks: &mut [Mark],
-) -> fmt::Result {
+) -> usize {
+    let frame = Frame::of(grid);
     let columns = frame.columns;
+    let count = grid.cells().min(MOST_CELLS);
+    let mut room = [Mark::OpenWater; MOST_CELLS];
+    let marks = &mut room[..count];
     mark_water(covers, cover, marks);
     let unshaded = Cells {
         columns,
@@ -74,32 +77,8 @@ fn write_unmarked(
         direction,
         recharged,
     };
-    write_marked(page, frame, &cells, classes, days)
-}
-
-// Written from the front of the text on; where all of it would end is returned. Numbers that are not there are 0.
-pub fn put_map(
-    text: &mut [u8],
-    grid: Grid,
-    covers: &[u32],
-    direction: &[u32],
-    cover: &[u32],
-    recharged: &[u64],
-    days: &[i32],
-) -> usize {
     let mut page = Page::new(text);
-    let mut marks = [Mark::OpenWater; MOST_CELLS];
-    let cells = grid.cells().min(MOST_CELLS);
     // A page takes all that it is given.
-    let _ = write_unmarked(
-        &mut page,
-        Frame::of(grid),
-        covers,
-        direction,
-        cover,
-        recharged,
-        days,
-        &mut marks[..cells],
-    );
+    let _ = write_map(&mut page, frame, &cells, classes, days);
     page.end()
 }
