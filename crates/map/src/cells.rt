@@ -2,7 +2,7 @@
 use crate::directions::Direction;
 use crate::marks::{Ink, Mark, Sign};
 
-// A list for each; numbers that are not there are 0.
+// Lists that the program lends (no heap), a number for each cell; numbers that are not there are 0.
 #[derive(Clone, Copy)]
 pub(crate) struct Cells<'a> {
     pub(crate) columns: usize,

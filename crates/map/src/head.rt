@@ -1,6 +1,6 @@
 // The map's front, with its style, and its head: title, period and the grid's size.
 use crate::frame::{Frame, LINE, PANEL_X};
-use crate::parts::{plural, write_text};
+use crate::parts::{Counted, plural, write_text};
 use std::fmt;
 use std::fmt::{Display, Formatter, Write};
 use words::Page;
@@ -118,11 +118,12 @@ fn write_period(page: &mut Page, days: &[i32]) -> fmt::Result {
     }
     let several = plural(count);
     let serials = span_of(days, SERIAL);
+    let counted = Counted(count, "day");
     write_text(
         page,
         PANEL_X,
         PERIOD_Y,
-        format_args!("Serial{several} {serials} ({count} day{several}),"),
+        format_args!("Serial{several} {serials} ({counted}),"),
     )?;
     let dates = span_of(days, DAY_OF_YEAR);
     write_text(
@@ -134,18 +135,14 @@ fn write_period(page: &mut Page, days: &[i32]) -> fmt::Result {
 }
 
 fn write_size(page: &mut Page, frame: Frame, cells: usize) -> fmt::Result {
-    let columns = frame.columns;
-    let rows = frame.rows;
+    let columns = Counted(frame.columns, "column");
+    let rows = Counted(frame.rows, "row");
+    let cells = Counted(cells, "cell");
     write_text(
         page,
         PANEL_X,
         PERIOD_Y + 2 * LINE,
-        format_args!(
-            "{columns} column{}, {rows} row{}, {cells} cell{}",
-            plural(columns),
-            plural(rows),
-            plural(cells)
-        ),
+        format_args!("{columns}, {rows}, {cells}"),
     )
 }
 
