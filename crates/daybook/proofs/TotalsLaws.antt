@@ -1,60 +1,30 @@
--- A day's totals lie within a list that has room for that day, seven stores one after another are one writing of seven numbers, and what a ledger
--- wrote to the front of a list reads back day by day, since day k's seven numbers begin after those of k days.
-use mathlib.Core.Bool.{Bool, true, cond}
-use mathlib.Core.List.{List, [], ◌∷◌, ◌++◌}
+-- Seven totals that are copied to a day's place are one writing of seven numbers, and what a ledger wrote to the front of a list reads back day by day,
+-- since day k's seven numbers begin after those of k days.
+use mathlib.Core.Bool.{cond}
+use mathlib.Core.List.{List, ◌++◌}
 use mathlib.Core.Path.{◌≡◌, refl, sym, ap, ◌∙◌}
-use Prim.Native.Nat.{ℕ, zero, suc, ◌+◌, ◌*◌, ◌/◌, ◌≤◌, ◌<◌, min}
+use Prim.Native.Nat.{ℕ, zero, suc, ◌+◌, ◌-◌, ◌*◌, ◌/◌, ◌≤◌, ◌<◌}
 use native.Mathlib.Nat.{add-zero}
 use native.Mathlib.Omega.{arith}
-use lib.ListN.{length, get_or, set, drop, length-append, get_or-append}
-use lib.Seq.{sets, sets-eq, get_or-append-add}
+use lib.ListN.{length, get_or, take, drop, length-append, get_or-append}
+use lib.Seq.{sets, sets-eq, drop-drop, get_or-append-add}
+use borrow.Author.Tests.{lt-ltb}
+use borrow.Rule.Slice.PartMut.{put_mid}
+use Rattle.std.specs.Prelude.{ltb}
+use Rattle.std.proofs.lemmas.List.{append_assoc}
 use Rattle.theory.proofs.Cases.{below_or_not, cond_true}
 use Rattle.paper.specs.Day.{Totals}
 use Rattle.daybook.specs.Totals.{seven, ledger, totals_in}
-use Rattle.daybook.proofs.DayLaws.{read_on}
 
-pub within : (k n j : ℕ) → k < n / 7 → j ≤ 6 → 7 * k + j < n
-within k n j h i = omega arith
+copied_is : (l ys : List ℕ) (a n : ℕ) → length ys ≡ n → a + n ≤ length l → put_mid a n l ys ≡ sets l a ys
+copied_is l ys a n long room = rw (drop-drop n a l, ← long) (sym (sets-eq ys l a (omega (arith, room, long)) ∙ append_assoc (take a l) ys (drop (a + length ys) l)))
 
-seven_stored : (l : List ℕ) (at a b c d e f g : ℕ)
-    → set (set (set (set (set (set (set l at a) (at + 1) b) (at + 2) c) (at + 3) d) (at + 4) e) (at + 5) f) (at + 6) g
-    ≡ sets l at (a ∷ b ∷ c ∷ d ∷ e ∷ f ∷ g ∷ [])
-seven_stored l at a b c d e f g =
-    let one : at + 1 ≡ suc at = omega arith in
-    let two : at + 2 ≡ suc (suc at) = omega arith in
-    let three : at + 3 ≡ suc (suc (suc at)) = omega arith in
-    let four : at + 4 ≡ suc (suc (suc (suc at))) = omega arith in
-    let five : at + 5 ≡ suc (suc (suc (suc (suc at)))) = omega arith in
-    let six : at + 6 ≡ suc (suc (suc (suc (suc (suc at))))) = omega arith in
-    rw (one, two, three, four, five, six) refl
-
--- where the list has room
-pub seven_written : (l : List ℕ) (room : Bool) → room ≡ true → (at : ℕ) (t : Totals)
-    → set (set (set (set (set (set (set l at t.gross) (at + 1) t.intercepted) (at + 2) t.evapotranspired) (at + 3) t.recharged) (at + 4) t.rejected) (at + 5) t.gone) (at + 6) t.stored
-    ≡ cond room (sets l at (seven t)) l
-seven_written l room h at t = seven_stored l at _ _ _ _ _ _ _ ∙ sym (cond_true room h _ _)
-
--- the totals of seven numbers that were read from the day's place on, or from the list's end
-pub totals_are :
-    (ns : List ℕ) (k at : ℕ) → at ≡ min (7 * k) (length ns) → (a b c d e f g : ℕ)
-    → a ≡ get_or ns at 0 → b ≡ get_or ns (at + 1) 0 → c ≡ get_or ns (at + 2) 0 → d ≡ get_or ns (at + 3) 0
-    → e ≡ get_or ns (at + 4) 0 → f ≡ get_or ns (at + 5) 0 → g ≡ get_or ns (at + 6) 0
-    → record { gross = a; intercepted = b; evapotranspired = c; recharged = d; rejected = e; gone = f; stored = g } ≡ totals_in ns k
-unfolding totals_in
-totals_are ns k at placed a b c d e f g ea eb ec ed ee ef eg =
-    rw (
-      rw (add-zero (7 * k)) at (read 0 a (rw (add-zero at) ea)),
-      read 1 b eb,
-      read 2 c ec,
-      read 3 d ed,
-      read 4 e ee,
-      read 5 f ef,
-      read 6 g eg,
-    )
-    refl
-  where
-    read : (i x : ℕ) → x ≡ get_or ns (at + i) 0 → x ≡ get_or ns (7 * k + i) 0
-    read i x is = is ∙ ap (λ (p : ℕ). get_or ns (p + i) 0) placed ∙ read_on ns 0 (7 * k) i
+-- where the list has room for the day, what is copied to its place is the seven totals written there
+pub seven_copied : (l : List ℕ) (k : ℕ) (t : Totals) (copied : List ℕ) → copied ≡ seven t → k < length l / 7
+    → put_mid (7 * k) (7 * k + 7 - 7 * k) l copied ≡ cond (ltb k (length l / 7)) (sets l (7 * k) (seven t)) l
+seven_copied l k t copied e h =
+    let long : length copied ≡ 7 * k + 7 - 7 * k = ap length e ∙ omega arith in
+    copied_is l copied (7 * k) (7 * k + 7 - 7 * k) long (omega (arith, h)) ∙ ap (sets l (7 * k)) e ∙ sym (cond_true _ (lt-ltb k (length l / 7) h) _ _)
 
 -- what a ledger wrote
 pub ledger_length : (t : ℕ → Totals) (n : ℕ) → length (ledger t n) ≡ 7 * n

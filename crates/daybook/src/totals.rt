@@ -1,52 +1,51 @@
 // The totals of days in a list, in the order of a line of the office's program.
-ghost use Rattle.std.specs.Prelude.{cond, ◌≡◌, ◌*◌, ◌/◌, ltb, length, get_or};
+ghost use Rattle.std.specs.Prelude.{cond, ◌≡◌, ◌*◌, ◌/◌, ltb, length};
 ghost use Rattle.std.proofs.lemmas.List.Edits.{sets};
 ghost use Rattle.records.specs.Answers.{totals_as};
 ghost use Rattle.daybook.specs.Totals.{seven, totals_in};
 
-use crate::days::place_of;
+use crate::days::{DAY_NUMBERS, seven_at};
 use records::{Depth, Totals};
 
-// As many as a day has numbers.
-const DAY_TOTALS: usize = 7;
-
-// Writes the totals of day k, where the list has room for them.
+// Writes the totals of day k, as many as a day has numbers, where the list has room for them.
 pub fn put_totals(list: &mut [u64], k: usize, totals: Totals)
     ensures { list.new ≡ cond (ltb k (length list.old / 7)) (sets list.old (7 * k) (seven (totals_as totals))) list.old }
 {
-    if k < list.len() / DAY_TOTALS {
-        let at = DAY_TOTALS * k;
-        list[at] = totals.gross.0;
-        list[at + 1] = totals.intercepted.0;
-        list[at + 2] = totals.evapotranspired.0;
-        list[at + 3] = totals.recharged.0;
-        list[at + 4] = totals.rejected.0;
-        list[at + 5] = totals.gone.0;
-        list[at + 6] = totals.stored.0;
+    if k < list.len() / DAY_NUMBERS {
+        let at = DAY_NUMBERS * k;
+        list[at..at + DAY_NUMBERS].copy_from_slice(&[
+            totals.gross.0,
+            totals.intercepted.0,
+            totals.evapotranspired.0,
+            totals.recharged.0,
+            totals.rejected.0,
+            totals.gone.0,
+            totals.stored.0,
+        ]);
     }
-}
-
-fn total_at(list: &[u64], place: usize) -> u64
-    ensures { result ≡ get_or list.now place 0 }
-{
-    if place < list.len() {
-        return list[place];
-    }
-    0
 }
 
 // The totals of day k; what the list does not have reads as 0.
+#[tactic(auto, unfolding(crate::specs::Totals::totals_in))]
 pub fn totals_at(list: &[u64], k: usize) -> Totals
     ensures { totals_as result ≡ totals_in list.now k }
 {
-    let at = place_of(list.len(), k);
+    let [
+        gross,
+        intercepted,
+        evapotranspired,
+        recharged,
+        rejected,
+        gone,
+        stored,
+    ] = seven_at(list, k, 0);
     Totals {
-        gross: Depth(total_at(list, at)),
-        intercepted: Depth(total_at(list, at + 1)),
-        evapotranspired: Depth(total_at(list, at + 2)),
-        recharged: Depth(total_at(list, at + 3)),
-        rejected: Depth(total_at(list, at + 4)),
-        gone: Depth(total_at(list, at + 5)),
-        stored: Depth(total_at(list, at + 6)),
+        gross: Depth(gross),
+        intercepted: Depth(intercepted),
+        evapotranspired: Depth(evapotranspired),
+        recharged: Depth(recharged),
+        rejected: Depth(rejected),
+        gone: Depth(gone),
+        stored: Depth(stored),
     }
 }

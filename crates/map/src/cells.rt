@@ -1,225 +1,79 @@
-// The cells: a square each, with what comes up where the pointer rests on it, and what is drawn on them. One unit is one cell.
-use crate::classes::{SHADES, is_closed, is_depression};
-use crate::frame::{Frame, MAP_X, MAP_Y, has_large_cells};
-use crate::legend::letter_of;
-use crate::parts::put_with;
-use crate::sums::{number_at, plus, quotient, remainder, sum_at};
-use words::{put_byte, put_bytes, put_inches, put_item, put_number};
+// The cells of the map, and what is known of each.
+use crate::directions::Direction;
+use crate::marks::{Ink, Mark, Sign};
 
-// The first shade on which arrows are white.
-const FIRST_WHITE: u8 = 6;
-
-fn put_square(text: &mut [u8], at: usize, mark: u8, column: u64, row: u64) -> usize {
-    let a = put_bytes(text, at, b"<path class=\"");
-    let b = put_byte(text, a, letter_of(mark));
-    let c = put_bytes(text, b, b"\" d=\"M");
-    let d = put_item(text, c, column, b' ');
-    let e = put_number(text, d, row);
-    put_bytes(text, e, b"h1v1h-1z\"><title>Row ")
+// Lists that the program lends (no heap), a number for each cell; numbers that are not there are 0.
+#[derive(Clone, Copy)]
+pub(crate) struct Cells<'a> {
+    pub(crate) columns: usize,
+    pub(crate) marks: &'a [Mark],
+    pub(crate) direction: &'a [u32],
+    pub(crate) recharged: &'a [u64],
 }
 
-fn put_recharge(text: &mut [u8], at: usize, mark: u8, recharge: u64) -> usize {
-    if mark == SHADES {
-        return put_bytes(text, at, b": open water</title></path>\n");
+// `direction` is none where water leaves it in no direction.
+#[derive(Clone, Copy)]
+pub(crate) struct Cell {
+    pub(crate) number: usize,
+    pub(crate) row: usize,
+    pub(crate) column: usize,
+    pub(crate) mark: Mark,
+    pub(crate) direction: Option<Direction>,
+    pub(crate) recharge: u64,
+}
+
+impl Cells<'_> {
+    pub(crate) fn len(&self) -> usize {
+        self.marks.len()
     }
-    let a = put_bytes(text, at, b": ");
-    let b = put_inches(text, a, recharge);
-    put_bytes(text, b, b" inches</title></path>\n")
-}
 
-fn put_one(text: &mut [u8], at: usize, columns: u64, cell: u64, mark: u8, recharge: u64) -> usize {
-    let row = quotient(cell, columns);
-    let column = remainder(cell, columns);
-    let a = put_square(text, at, mark, column, row);
-    let b = put_number(text, a, plus(row, 1));
-    let c = put_with(text, b, b", column ", plus(column, 1));
-    let d = put_with(text, c, b", cell ", cell);
-    put_recharge(text, d, mark, recharge)
-}
-
-fn put_squares(text: &mut [u8], at: usize, columns: u64, marks: &[u8], recharged: &[u64]) -> usize {
-    let mut next = at;
-    let mut i = 0;
-    while i < marks.len() {
-        next = put_one(
-            text,
-            next,
-            columns,
-            i as u64,
-            marks[i],
-            sum_at(recharged, i),
-        );
-        i += 1;
+    // No cell is drawn where there are no columns.
+    pub(crate) fn at(&self, number: usize) -> Cell {
+        let columns = self.columns.max(1);
+        let direction = self.direction.get(number).copied().unwrap_or(0);
+        Cell {
+            number,
+            row: number / columns,
+            column: number % columns,
+            mark: self.marks.get(number).copied().unwrap_or(Mark::OpenWater),
+            direction: Direction::of(direction),
+            recharge: self.recharged.get(number).copied().unwrap_or(0),
+        }
     }
-    next
-}
 
-// From the cell's centre: back to the arrow's tail, then its shaft and its two barbs.
-fn put_arrow(text: &mut [u8], at: usize, direction: u32) -> usize {
-    match direction {
-        1 => put_bytes(text, at, b"m-.25 0h.55m-.15-.15l.15 .15l-.15 .15"),
-        2 => put_bytes(text, at, b"m-.18-.18l.4 .4m0-.21v.21h-.21"),
-        4 => put_bytes(text, at, b"m0-.25v.55m.15-.15l-.15 .15l-.15-.15"),
-        8 => put_bytes(text, at, b"m.18-.18l-.4 .4m0-.21v.21h.21"),
-        16 => put_bytes(text, at, b"m.25 0h-.55m.15-.15l-.15 .15l.15 .15"),
-        32 => put_bytes(text, at, b"m.18 .18l-.4-.4m0 .21v-.21h.21"),
-        64 => put_bytes(text, at, b"m0 .25v-.55m.15 .15l-.15-.15l-.15 .15"),
-        _ => put_bytes(text, at, b"m-.18 .18l.4-.4m0 .21v-.21h-.21"),
+    pub(crate) fn count_marked(&self, mark: Mark) -> usize {
+        self.marks.iter().filter(|m| **m == mark).count()
+    }
+
+    pub(crate) fn count_depressions(&self) -> usize {
+        (0..self.len())
+            .filter(|i| self.at(*i).is_depression())
+            .count()
     }
 }
 
-// Whether a cell has an arrow of this colour.
-fn has_arrow(mark: u8, direction: u32, white: bool) -> bool {
-    if mark == SHADES {
-        return false;
+impl Cell {
+    pub(crate) fn is_land(self) -> bool {
+        self.mark != Mark::OpenWater
     }
-    if is_closed(direction) {
-        return false;
+
+    // A closed one: land that no water leaves.
+    pub(crate) fn is_depression(self) -> bool {
+        self.is_land() && self.direction.is_none()
     }
-    if white {
-        return FIRST_WHITE <= mark;
+
+    // The arrow to where its water goes, if it is drawn with this ink.
+    pub(crate) fn arrow(self, ink: Ink) -> Option<Sign> {
+        if self.mark.ink() != Some(ink) {
+            return None;
+        }
+        self.direction.map(Sign::Arrow)
     }
-    mark < FIRST_WHITE
-}
 
-fn put_arrow_at(text: &mut [u8], at: usize, columns: u64, cell: u64, direction: u32) -> usize {
-    let a = put_with(text, at, b"M", remainder(cell, columns));
-    let b = put_with(text, a, b".5 ", quotient(cell, columns));
-    let c = put_bytes(text, b, b".5");
-    put_arrow(text, c, direction)
-}
-
-fn put_arrow_if(
-    text: &mut [u8],
-    at: usize,
-    columns: u64,
-    cell: u64,
-    mark: u8,
-    direction: u32,
-    white: bool,
-) -> usize {
-    if has_arrow(mark, direction, white) {
-        return put_arrow_at(text, at, columns, cell, direction);
+    pub(crate) fn diamond(self) -> Option<Sign> {
+        if self.is_depression() {
+            return Some(Sign::Diamond);
+        }
+        None
     }
-    at
-}
-
-fn put_arrows(
-    text: &mut [u8],
-    at: usize,
-    columns: u64,
-    marks: &[u8],
-    direction: &[u32],
-    white: bool,
-) -> usize {
-    let mut next = at;
-    let mut i = 0;
-    while i < marks.len() {
-        next = put_arrow_if(
-            text,
-            next,
-            columns,
-            i as u64,
-            marks[i],
-            number_at(direction, i),
-            white,
-        );
-        i += 1;
-    }
-    next
-}
-
-fn put_diamond_if(
-    text: &mut [u8],
-    at: usize,
-    columns: u64,
-    cell: u64,
-    mark: u8,
-    direction: u32,
-) -> usize {
-    if !is_depression(mark, direction) {
-        return at;
-    }
-    let a = put_with(text, at, b"M", remainder(cell, columns));
-    let b = put_with(text, a, b".5 ", quotient(cell, columns));
-    put_bytes(text, b, b".2l.3 .3l-.3 .3l-.3-.3z")
-}
-
-fn put_diamonds(
-    text: &mut [u8],
-    at: usize,
-    columns: u64,
-    marks: &[u8],
-    direction: &[u32],
-) -> usize {
-    let mut next = at;
-    let mut i = 0;
-    while i < marks.len() {
-        next = put_diamond_if(
-            text,
-            next,
-            columns,
-            i as u64,
-            marks[i],
-            number_at(direction, i),
-        );
-        i += 1;
-    }
-    next
-}
-
-// The pointer sees the cells and not what is drawn on them.
-fn put_drawing(text: &mut [u8], at: usize, large: bool) -> usize {
-    let next = put_bytes(
-        text,
-        at,
-        b"</g>\n<g pointer-events=\"none\" stroke-width=\"",
-    );
-    if large {
-        return put_bytes(text, next, b".07\">\n");
-    }
-    put_bytes(text, next, b".1\">\n")
-}
-
-fn put_drawn(text: &mut [u8], at: usize, columns: u64, marks: &[u8], direction: &[u32]) -> usize {
-    let a = put_bytes(text, at, b"<path class=\"s\" d=\"");
-    let b = put_arrows(text, a, columns, marks, direction, false);
-    let c = put_bytes(text, b, b"\"/>\n<path class=\"l\" d=\"");
-    let d = put_arrows(text, c, columns, marks, direction, true);
-    let e = put_bytes(text, d, b"\"/>\n<path class=\"q\" d=\"");
-    let f = put_diamonds(text, e, columns, marks, direction);
-    put_bytes(text, f, b"\"/>\n</g>\n</g>\n")
-}
-
-fn put_edge(text: &mut [u8], at: usize, width: u64, height: u64) -> usize {
-    let a = put_with(text, at, b"<path class=\"o\" d=\"M", MAP_X);
-    let b = put_with(text, a, b" ", MAP_Y);
-    let c = put_with(text, b, b"h", width);
-    let d = put_with(text, c, b"v", height);
-    let e = put_with(text, d, b"h-", width);
-    put_bytes(text, e, b"z\"/>\n")
-}
-
-fn put_cells_front(text: &mut [u8], at: usize, cell: u64) -> usize {
-    let a = put_with(text, at, b"<g transform=\"translate(", MAP_X);
-    let b = put_with(text, a, b",", MAP_Y);
-    let c = put_with(text, b, b") scale(", cell);
-    put_bytes(text, c, b")\">\n<g class=\"m\">\n")
-}
-
-pub(crate) fn put_cells(
-    text: &mut [u8],
-    at: usize,
-    frame: Frame,
-    marks: &[u8],
-    direction: &[u32],
-    recharged: &[u64],
-) -> usize {
-    let cell = frame.cell;
-    let columns = frame.columns;
-    let a = put_cells_front(text, at, cell);
-    let b = put_squares(text, a, columns, marks, recharged);
-    let c = put_drawing(text, b, has_large_cells(cell));
-    let d = put_drawn(text, c, columns, marks, direction);
-    put_edge(text, d, frame.width, frame.height)
 }

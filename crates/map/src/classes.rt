@@ -1,250 +1,170 @@
-// What the map says of each cell, as a mark: one of eight shades by its class, or open water. bench/plain_map.c says in words how classes are chosen.
-use crate::sums::{above, larger, number_at, plus, quotient, smaller, sum_at, times};
+// The classes of the land's recharge. bench/plain_map.c says in words how they are chosen.
+use crate::cells::{Cell, Cells};
+use crate::marks::{Mark, SHADES};
 
-// Land's mark is its shade, below this; open water's mark is this.
-pub(crate) const SHADES: u8 = 8;
-
-const CLASSES: u64 = 8;
-
-// The numbers of a cover entry.
-const ENTRY: usize = 16;
+// As many as there are shades.
+const MOST_CLASSES: usize = SHADES as usize;
 
 // 0.01 inch.
 const NARROWEST_STEP: u64 = 100;
 
 // By then a step is so wide that no number is past the last class.
-const MOST_TURNS: u64 = 66;
+const MOST_TURNS: usize = 66;
 
 // At most one land cell in so many is past the last class, besides closed depressions.
-const ONE_IN: u64 = 50;
+const ONE_IN: usize = 50;
 
 // How many cells are land, and the least and the most that recharged on one.
 #[derive(Clone, Copy)]
 pub(crate) struct Land {
-    pub(crate) cells: u64,
+    cells: usize,
     pub(crate) least: u64,
     pub(crate) most: u64,
 }
 
-// The first class begins at `first` steps. An open one, the last, has no upper limit.
+// Where classes begin: each is a step wide, and the first one begins at `first` steps.
+#[derive(Clone, Copy)]
+pub(crate) struct Scale {
+    pub(crate) step: u64,
+    first: u64,
+}
+
+// An open one, the last, has no upper limit.
 #[derive(Clone, Copy)]
 pub(crate) struct Classes {
-    pub(crate) step: u64,
-    pub(crate) first: u64,
-    pub(crate) count: u64,
-    pub(crate) open: bool,
+    pub(crate) land: Land,
+    pub(crate) scale: Scale,
+    pub(crate) count: usize,
+    open: bool,
 }
 
-// Whether the first entry of that cover has a 1 behind its code.
-fn is_open_water(covers: &[u32], code: u32) -> bool {
-    let entries = covers.len() / ENTRY;
-    let mut entry = 0;
-    while entry < entries {
-        if number_at(covers, ENTRY * entry) == code {
-            return number_at(covers, ENTRY * entry + 1) == 1;
-        }
-        entry += 1;
-    }
-    false
-}
-
-fn mark_if(water: bool) -> u8 {
-    if water {
-        return SHADES;
-    }
-    0
-}
-
-// Marks open water, and all else as land of the lightest shade.
-pub(crate) fn mark_water(covers: &[u32], cover: &[u32], marks: &mut [u8]) {
-    let mut i = 0;
-    while i < marks.len() {
-        marks[i] = mark_if(is_open_water(covers, number_at(cover, i)));
-        i += 1;
-    }
-}
-
-// Whether water leaves a cell in none of the eight directions.
-pub(crate) fn is_closed(direction: u32) -> bool {
-    match direction {
-        1 => false,
-        2 => false,
-        4 => false,
-        8 => false,
-        16 => false,
-        32 => false,
-        64 => false,
-        128 => false,
-        _ => true,
-    }
-}
-
-fn with_cell(land: Land, mark: u8, recharge: u64) -> Land {
-    if mark == SHADES {
-        return land;
-    }
-    let cells = land.cells;
-    if cells == 0 {
-        return Land {
+impl Land {
+    fn one(recharge: u64) -> Land {
+        Land {
             cells: 1,
             least: recharge,
             most: recharge,
-        };
+        }
     }
-    Land {
-        cells: plus(cells, 1),
-        least: smaller(land.least, recharge),
-        most: larger(land.most, recharge),
+
+    fn and(self, recharge: u64) -> Land {
+        Land {
+            cells: self.cells.saturating_add(1),
+            least: self.least.min(recharge),
+            most: self.most.max(recharge),
+        }
+    }
+
+    fn of(cells: &Cells) -> Option<Land> {
+        let mut land: Option<Land> = None;
+        for i in 0..cells.len() {
+            let cell = cells.at(i);
+            if cell.is_land() {
+                land = Some(land.map_or(Land::one(cell.recharge), |land| land.and(cell.recharge)));
+            }
+        }
+        land
     }
 }
 
-pub(crate) fn land_of(marks: &[u8], recharged: &[u64]) -> Land {
-    let mut land = Land {
-        cells: 0,
-        least: 0,
-        most: 0,
-    };
-    let mut i = 0;
-    while i < marks.len() {
-        land = with_cell(land, marks[i], sum_at(recharged, i));
-        i += 1;
-    }
-    land
-}
-
-// Whether a cell that water leaves is past the last class that there can be.
-fn is_past(mark: u8, direction: u32, recharge: u64, first: u64, step: u64) -> bool {
-    if mark == SHADES {
-        return false;
-    }
-    if above(quotient(recharge, step), first) < CLASSES {
-        return false;
-    }
-    !is_closed(direction)
-}
-
-fn one_if(yes: bool) -> u64 {
-    if yes {
-        return 1;
-    }
-    0
-}
-
-fn past_last(marks: &[u8], direction: &[u32], recharged: &[u64], first: u64, step: u64) -> u64 {
-    let mut past = 0;
-    let mut i = 0;
-    while i < marks.len() {
-        let counts = is_past(
-            marks[i],
-            number_at(direction, i),
-            sum_at(recharged, i),
-            first,
+impl Scale {
+    // With the least recharge in the first class.
+    fn new(step: u64, least: u64) -> Scale {
+        Scale {
             step,
-        );
-        past = plus(past, one_if(counts));
-        i += 1;
+            first: least.checked_div(step).unwrap_or(0),
+        }
     }
-    past
+
+    // The class of a recharge, from 0, if there were as many as are needed.
+    fn class(self, recharge: u64) -> usize {
+        let steps = recharge.checked_div(self.step).unwrap_or(0);
+        steps.saturating_sub(self.first) as usize
+    }
+
+    // A class has its lower limit and not its upper one, which is the next one's.
+    fn limit(self, class: usize) -> u64 {
+        self.first
+            .saturating_add(class as u64)
+            .saturating_mul(self.step)
+    }
+
+    // Whether water leaves the cell and it is past the last class that there can be.
+    fn is_past(self, cell: Cell) -> bool {
+        cell.is_land() && cell.direction.is_some() && MOST_CLASSES <= self.class(cell.recharge)
+    }
+
+    fn fits(self, cells: &Cells, land: Land) -> bool {
+        let past = (0..cells.len())
+            .filter(|i| self.is_past(cells.at(*i)))
+            .count();
+        past.saturating_mul(ONE_IN) <= land.cells
+    }
 }
 
 // The steps are 1, 2, 2.5, 5, 10, .. times the narrowest.
-fn wider(step: u64, turn: u64) -> u64 {
+fn wider(step: u64, turn: usize) -> u64 {
     if turn % 4 == 1 {
-        return times(step / 4, 5);
+        return (step / 4).saturating_mul(5);
     }
-    times(step, 2)
+    step.saturating_mul(2)
 }
 
-fn step_for(marks: &[u8], direction: &[u32], recharged: &[u64], land: u64, least: u64) -> u64 {
+fn scale_for(cells: &Cells, land: Land) -> Scale {
     let mut step = NARROWEST_STEP;
-    let mut turn = 0;
-    while turn < MOST_TURNS {
-        let past = past_last(marks, direction, recharged, quotient(least, step), step);
-        if times(past, ONE_IN) <= land {
-            return step;
+    for turn in 0..MOST_TURNS {
+        let scale = Scale::new(step, land.least);
+        if scale.fits(cells, land) {
+            return scale;
         }
         step = wider(step, turn);
-        turn += 1;
     }
-    step
+    Scale::new(step, land.least)
 }
 
-fn classes_needed(land: Land, step: u64) -> u64 {
-    if land.cells == 0 {
-        return 0;
+impl Classes {
+    // None where all is open water.
+    pub(crate) fn of(cells: &Cells) -> Option<Classes> {
+        let land = Land::of(cells)?;
+        let scale = scale_for(cells, land);
+        let needed = scale.class(land.most).saturating_add(1);
+        Some(Classes {
+            land,
+            scale,
+            count: needed.min(MOST_CLASSES),
+            open: MOST_CLASSES < needed,
+        })
     }
-    plus(
-        above(quotient(land.most, step), quotient(land.least, step)),
-        1,
-    )
-}
 
-pub(crate) fn classes_of(
-    marks: &[u8],
-    direction: &[u32],
-    recharged: &[u64],
-    land: Land,
-) -> Classes {
-    let least = land.least;
-    let step = step_for(marks, direction, recharged, land.cells, least);
-    let needed = classes_needed(land, step);
-    Classes {
-        step,
-        first: quotient(least, step),
-        count: smaller(needed, CLASSES),
-        open: CLASSES < needed,
+    // Spread over all shades, the first class in the lightest and the last in the darkest.
+    pub(crate) fn shade(self, class: usize) -> u8 {
+        let steps = self.count.saturating_sub(1);
+        let spread = class
+            .saturating_mul(MOST_CLASSES - 1)
+            .saturating_add(steps / 2);
+        let shade = spread.checked_div(steps).unwrap_or(0);
+        (shade % MOST_CLASSES) as u8
     }
-}
 
-// Spread over all shades, the first class in the lightest and the last in the darkest.
-pub(crate) fn shade_of(count: u64, class: u64) -> u8 {
-    let steps = above(count, 1);
-    let shade = quotient(plus(times(class, CLASSES - 1), steps / 2), steps);
-    (shade % CLASSES) as u8
-}
-
-fn marked(classes: Classes, mark: u8, recharge: u64) -> u8 {
-    if mark == SHADES {
-        return mark;
+    // Gives land its shades.
+    pub(crate) fn mark_land(self, recharged: &[u64], marks: &mut [Mark]) {
+        for (i, mark) in marks.iter_mut().enumerate() {
+            if *mark != Mark::OpenWater {
+                let class = self.scale.class(recharged.get(i).copied().unwrap_or(0));
+                *mark = Mark::Land(self.shade(class.min(MOST_CLASSES - 1)));
+            }
+        }
     }
-    let class = above(quotient(recharge, classes.step), classes.first);
-    shade_of(classes.count, smaller(class, CLASSES - 1))
-}
 
-// Gives land its shades.
-pub(crate) fn mark_land(classes: Classes, recharged: &[u64], marks: &mut [u8]) {
-    let mut i = 0;
-    while i < marks.len() {
-        marks[i] = marked(classes, marks[i], sum_at(recharged, i));
-        i += 1;
+    pub(crate) fn lower(self, class: usize) -> u64 {
+        self.scale.limit(class)
     }
-}
 
-pub(crate) fn count_marked(marks: &[u8], mark: u8) -> u64 {
-    let mut count = 0;
-    let mut i = 0;
-    while i < marks.len() {
-        count = plus(count, one_if(marks[i] == mark));
-        i += 1;
+    pub(crate) fn upper(self, class: usize) -> Option<u64> {
+        let next = class.saturating_add(1);
+        if self.open && next == self.count {
+            return None;
+        }
+        Some(self.scale.limit(next))
     }
-    count
-}
-
-// Whether a cell is a closed depression: land that no water leaves.
-pub(crate) fn is_depression(mark: u8, direction: u32) -> bool {
-    if mark == SHADES {
-        return false;
-    }
-    is_closed(direction)
-}
-
-pub(crate) fn count_depressions(marks: &[u8], direction: &[u32]) -> u64 {
-    let mut count = 0;
-    let mut i = 0;
-    while i < marks.len() {
-        let closed = is_depression(marks[i], number_at(direction, i));
-        count = plus(count, one_if(closed));
-        i += 1;
-    }
-    count
 }

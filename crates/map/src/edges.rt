@@ -1,89 +1,73 @@
 // The numbers of columns and rows along the map's edges.
-use crate::frame::{Frame, MAP_X, MAP_Y, is_far, is_numbered, middle};
-use crate::parts::{put_text_end, put_text_front, put_with};
-use crate::sums::plus;
-use words::{put_bytes, put_number};
+use crate::frame::{Frame, MAP_X, MAP_Y};
+use crate::parts::write_text;
+use std::fmt;
+use std::fmt::Write;
+use words::Page;
 
-// From the far side's numbers back to the near side's, besides the map itself.
-const BELOW: u64 = 26;
+// From this size of the map on its far side is numbered too.
+const FAR_SIDE: usize = 400;
 
-const BEHIND: u64 = 32;
-
-// The column of that number, from 0.
-fn put_column(text: &mut [u8], at: usize, cell: u64, number: u64) -> usize {
-    let shown = plus(number, 1);
-    if !is_numbered(cell, shown) {
-        return at;
-    }
-    let a = put_text_front(text, at, plus(MAP_X, middle(cell, number)), MAP_Y - 8);
-    let b = put_number(text, a, shown);
-    put_text_end(text, b)
+// Where the numbers stand: the columns' above the map, the rows' left of it.
+#[derive(Clone, Copy)]
+enum Edge {
+    Above,
+    Left,
 }
 
-fn put_row(text: &mut [u8], at: usize, cell: u64, number: u64) -> usize {
-    let shown = plus(number, 1);
-    if !is_numbered(cell, shown) {
-        return at;
+impl Edge {
+    fn numbers(self, frame: Frame) -> usize {
+        match self {
+            Edge::Above => frame.columns,
+            Edge::Left => frame.rows,
+        }
     }
-    let a = put_text_front(text, at, MAP_X - 8, plus(MAP_Y + 4, middle(cell, number)));
-    let b = put_number(text, a, shown);
-    put_text_end(text, b)
+
+    // Of a number, so far from the map's corner.
+    fn place(self, along: usize) -> (usize, usize) {
+        match self {
+            Edge::Above => (along.saturating_add(MAP_X), MAP_Y - 8),
+            Edge::Left => (MAP_X - 8, along.saturating_add(MAP_Y + 4)),
+        }
+    }
+
+    fn write_numbers(self, page: &mut Page, frame: Frame) -> fmt::Result {
+        for i in 0..self.numbers(frame) {
+            let number = i + 1;
+            if frame.is_numbered(number) {
+                let (x, y) = self.place(frame.middle(i));
+                write_text(page, x, y, number)?;
+            }
+        }
+        Ok(())
+    }
+
+    // The same numbers on the far side, where that is far enough.
+    fn write_again(self, page: &mut Page, frame: Frame) -> fmt::Result {
+        let (size, axis, beyond) = match self {
+            Edge::Above => (frame.height, r##"#x" y"##, 26),
+            Edge::Left => (frame.width, r##"#y" x"##, 32),
+        };
+        if size < FAR_SIDE {
+            return Ok(());
+        }
+        let away = size.saturating_add(beyond);
+        writeln!(page, r#"<use xlink:href="{axis}="{away}"/>"#)
+    }
+
+    fn write(self, page: &mut Page, frame: Frame) -> fmt::Result {
+        let named = match self {
+            Edge::Above => r#"id="x" class="i""#,
+            Edge::Left => r#"id="y" class="j""#,
+        };
+        writeln!(page, "<g {named}>")?;
+        self.write_numbers(page, frame)?;
+        writeln!(page, "</g>")?;
+        self.write_again(page, frame)
+    }
 }
 
-fn put_columns(text: &mut [u8], at: usize, columns: u64, cell: u64) -> usize {
-    let mut next = at;
-    let mut i = 0;
-    while i < columns {
-        next = put_column(text, next, cell, i);
-        i += 1;
-    }
-    next
-}
-
-fn put_rows(text: &mut [u8], at: usize, rows: u64, cell: u64) -> usize {
-    let mut next = at;
-    let mut i = 0;
-    while i < rows {
-        next = put_row(text, next, cell, i);
-        i += 1;
-    }
-    next
-}
-
-fn put_below(text: &mut [u8], at: usize, height: u64) -> usize {
-    if !is_far(height) {
-        return at;
-    }
-    let next = put_with(
-        text,
-        at,
-        b"<use xlink:href=\"#x\" y=\"",
-        plus(height, BELOW),
-    );
-    put_bytes(text, next, b"\"/>\n")
-}
-
-fn put_behind(text: &mut [u8], at: usize, width: u64) -> usize {
-    if !is_far(width) {
-        return at;
-    }
-    let next = put_with(
-        text,
-        at,
-        b"<use xlink:href=\"#y\" x=\"",
-        plus(width, BEHIND),
-    );
-    put_bytes(text, next, b"\"/>\n")
-}
-
-pub(crate) fn put_edges(text: &mut [u8], at: usize, frame: Frame) -> usize {
-    let cell = frame.cell;
-    let a = put_bytes(text, at, b"<g id=\"x\" class=\"i\">\n");
-    let b = put_columns(text, a, frame.columns, cell);
-    let c = put_bytes(text, b, b"</g>\n");
-    let d = put_below(text, c, frame.height);
-    let e = put_bytes(text, d, b"<g id=\"y\" class=\"j\">\n");
-    let f = put_rows(text, e, frame.rows, cell);
-    let g = put_bytes(text, f, b"</g>\n");
-    put_behind(text, g, frame.width)
+pub(crate) fn write_edges(page: &mut Page, frame: Frame) -> fmt::Result {
+    Edge::Above.write(page, frame)?;
+    Edge::Left.write(page, frame)
 }

@@ -1,55 +1,41 @@
 // The map's sizes. All but the grid's are in pixels.
-ghost use Rattle.std.specs.Prelude.{◌≤◌};
+use records::{Grid, MOST_CELLS, index_of};
 
-use crate::sums::{larger, plus, quotient, smaller, times};
-use records::{Grid, MOST_CELLS, wide};
+pub(crate) const MAP_X: usize = 316;
 
-pub(crate) const MAP_X: u64 = 316;
+pub(crate) const MAP_Y: usize = 56;
 
-pub(crate) const MAP_Y: u64 = 56;
+// Left of the map.
+pub(crate) const PANEL_X: usize = 24;
+
+// From one line of text to the next.
+pub(crate) const LINE: usize = 18;
 
 // From this size of a cell on each column and row is numbered, and arrows are finer.
-const LARGE_CELL: u64 = 20;
+const LARGE_CELL: usize = 20;
 
 // From this size on each fifth is.
-const SMALL_CELL: u64 = 8;
+const SMALL_CELL: usize = 8;
 
-// In cells: as many as there can be.
-const LONGEST_SIDE: u64 = 4096;
+const LARGEST_MAP: usize = 840;
 
-const LARGEST_MAP: u64 = 840;
+const SMALLEST_CELL: usize = 7;
 
-const SMALLEST_CELL: u64 = 7;
-
-const LARGEST_CELL: u64 = 63;
-
-// From this size of the map on its far side is numbered too.
-const FAR_SIDE: u64 = 400;
+const LARGEST_CELL: usize = 63;
 
 #[derive(Clone, Copy)]
 pub(crate) struct Frame {
-    pub(crate) columns: u64,
-    pub(crate) rows: u64,
+    pub(crate) columns: usize,
+    pub(crate) rows: usize,
     // The size of a cell, and of all of them.
-    pub(crate) cell: u64,
-    pub(crate) width: u64,
-    pub(crate) height: u64,
-}
-
-// As many of the cells as there can be.
-pub(crate) fn cells_of(grid: Grid) -> usize
-    ensures { result ≤ 4096 }
-{
-    let cells = grid.cells();
-    if cells < MOST_CELLS {
-        return cells;
-    }
-    MOST_CELLS
+    pub(crate) cell: usize,
+    pub(crate) width: usize,
+    pub(crate) height: usize,
 }
 
 // Odd, so that a cell's centre is a pixel's.
-fn cell_size(longer: u64) -> u64 {
-    let room = quotient(LARGEST_MAP, longer);
+fn cell_size(longer: usize) -> usize {
+    let room = LARGEST_MAP.checked_div(longer).unwrap_or(0);
     if room < SMALLEST_CELL {
         return SMALLEST_CELL;
     }
@@ -59,42 +45,39 @@ fn cell_size(longer: u64) -> u64 {
     room - (room + 1) % 2
 }
 
-pub(crate) fn frame_of(grid: Grid) -> Frame {
-    let columns = smaller(wide(grid.width), LONGEST_SIDE);
-    let rows = smaller(wide(grid.height), LONGEST_SIDE);
-    let cell = cell_size(larger(columns, rows));
-    Frame {
-        columns,
-        rows,
-        cell,
-        width: times(columns, cell),
-        height: times(rows, cell),
+impl Frame {
+    // A side has as many cells as a grid at most.
+    pub(crate) fn of(grid: Grid) -> Frame {
+        let columns = index_of(grid.width).min(MOST_CELLS);
+        let rows = index_of(grid.height).min(MOST_CELLS);
+        let cell = cell_size(columns.max(rows));
+        Frame {
+            columns,
+            rows,
+            cell,
+            width: columns.saturating_mul(cell),
+            height: rows.saturating_mul(cell),
+        }
     }
-}
 
-pub(crate) fn has_large_cells(cell: u64) -> bool {
-    LARGE_CELL <= cell
-}
-
-pub(crate) fn is_far(size: u64) -> bool {
-    FAR_SIDE <= size
-}
-
-// Whether the column or row of that number, from 1, is numbered.
-pub(crate) fn is_numbered(cell: u64, number: u64) -> bool {
-    if number == 1 {
-        return true;
+    pub(crate) fn has_large_cells(self) -> bool {
+        LARGE_CELL <= self.cell
     }
-    if LARGE_CELL <= cell {
-        return true;
-    }
-    if SMALL_CELL <= cell {
-        return number % 5 == 0;
-    }
-    number % 10 == 0
-}
 
-// The middle of a column or a row of that number, from 0, counted from the map's edge.
-pub(crate) fn middle(cell: u64, number: u64) -> u64 {
-    plus(times(number, cell), cell / 2 + 1)
+    // Whether the column or row of that number, from 1, is numbered.
+    pub(crate) fn is_numbered(self, number: usize) -> bool {
+        let each = match self.cell {
+            ..SMALL_CELL => 10,
+            SMALL_CELL..LARGE_CELL => 5,
+            _ => 1,
+        };
+        number == 1 || number % each == 0
+    }
+
+    // The middle of a column or a row of that number, from 0, counted from the map's edge.
+    pub(crate) fn middle(self, number: usize) -> usize {
+        number
+            .saturating_mul(self.cell)
+            .saturating_add(self.cell / 2 + 1)
+    }
 }

@@ -1,199 +1,156 @@
 // The map's front, with its style, and its head: title, period and the grid's size.
-use crate::frame::Frame;
-use crate::parts::{put_counted, put_several, put_text, put_text_end, put_text_front, put_with};
-use words::put_bytes;
+use crate::frame::{Frame, LINE, PANEL_X};
+use crate::parts::{Counted, plural, write_text};
+use std::fmt;
+use std::fmt::{Display, Formatter, Write};
+use words::Page;
 
-const PANEL_X: u64 = 24;
+const PERIOD_Y: usize = 80;
 
-const PERIOD_Y: u64 = 80;
-
-// From one line of text to the next.
-const LINE: u64 = 18;
-
-// The numbers of a day.
+// The numbers of a day, of which the first are its serial and the day of the year.
 const DAY_NUMBERS: usize = 7;
 
-// The page's size, and a white page, so that a dark one does not show through.
-pub(crate) fn put_front(text: &mut [u8], at: usize, width: u64, height: u64) -> usize {
-    let a = put_svg(text, at, width, height);
-    let b = put_texts(text, a);
-    let c = put_shades(text, b);
-    let d = put_lines(text, c);
-    let e = put_with(text, d, b"<path fill=\"#fff\" d=\"M0 0h", width);
-    let f = put_with(text, e, b"v", height);
-    put_bytes(text, f, b"H0z\"/>\n")
-}
+const SERIAL: usize = 0;
 
-fn put_svg(text: &mut [u8], at: usize, width: u64, height: u64) -> usize {
-    let a = put_namespaces(text, at);
-    let b = put_with(text, a, b"width=\"", width);
-    let c = put_with(text, b, b"\" height=\"", height);
-    let d = put_with(text, c, b"\" viewBox=\"0 0 ", width);
-    let e = put_with(text, d, b" ", height);
-    put_bytes(text, e, b"\">\n")
-}
-
-fn put_namespaces(text: &mut [u8], at: usize) -> usize {
-    let next = put_bytes(
-        text,
-        at,
-        b"<?xml version=\"1.0\" encoding=\"UTF-8\"?>\n<svg xmlns=\"http://www.w3.org/2000/svg\" ",
-    );
-    put_bytes(
-        text,
-        next,
-        b"xmlns:xlink=\"http://www.w3.org/1999/xlink\" version=\"1.1\" ",
-    )
-}
+const DAY_OF_YEAR: usize = 1;
 
 // How texts look: the title, headings, counts, and the numbers along the edges.
-fn put_texts(text: &mut [u8], at: usize) -> usize {
-    let a = put_bytes(
-        text,
-        at,
-        b"<title>Recharge</title>\n<style type=\"text/css\">\ntext{font:13px sans-serif;fill:#222}\n",
-    );
-    let b = put_bytes(
-        text,
-        a,
-        b".t{font-size:30px;font-weight:bold}\n.k{font-weight:bold}\n.n{text-anchor:end}\n",
-    );
-    put_bytes(
-        text,
-        b,
-        b".i text{font-size:11px;text-anchor:middle}\n.j text{font-size:11px;text-anchor:end}\n",
-    )
-}
+const TEXTS: &str = "text{font:13px sans-serif;fill:#222}
+.t{font-size:30px;font-weight:bold}
+.k{font-weight:bold}
+.n{text-anchor:end}
+.i text{font-size:11px;text-anchor:middle}
+.j text{font-size:11px;text-anchor:end}
+";
 
 // How cells look: the shades, from the lightest on, and open water.
-fn put_shades(text: &mut [u8], at: usize) -> usize {
-    let a = put_bytes(
-        text,
-        at,
-        b".a{fill:#fafcc4}.b{fill:#d0e99b}.c{fill:#a2d68b}.d{fill:#70c289}\n",
-    );
-    let b = put_bytes(
-        text,
-        a,
-        b".e{fill:#41ac86}.f{fill:#279382}.g{fill:#157b7a}.h{fill:#0c636e}\n",
-    );
-    put_bytes(
-        text,
-        b,
-        b".w{fill:url(#w);stroke:none}\n.m{stroke:#fff;stroke-width:.03}\n",
+const CELLS: &str = ".a{fill:#fafcc4}.b{fill:#d0e99b}.c{fill:#a2d68b}.d{fill:#70c289}
+.e{fill:#41ac86}.f{fill:#279382}.g{fill:#157b7a}.h{fill:#0c636e}
+.w{fill:url(#w);stroke:none}
+.m{stroke:#fff;stroke-width:.03}
+";
+
+// How lines look: arrows, diamonds, the map's edge and the legend's boxes.
+const LINES: &str = ".s{fill:none;stroke:#222;stroke-linecap:round}
+.l{fill:none;stroke:#fff;stroke-linecap:round}
+.q{fill:#fff;stroke:#222}
+.o{fill:none;stroke:#222}
+.p{fill:none;stroke:#aaa;stroke-width:.05}
+.z{stroke:#aaa}
+";
+
+// The hatch of open water.
+fn write_hatch(page: &mut Page) -> fmt::Result {
+    write!(
+        page,
+        r#"<defs><pattern id="w" width="1" height=".25" patternUnits="userSpaceOnUse">"#
+    )?;
+    write!(page, r##"<path fill="#d8e8fa" d="M0 0h1v.25h-1z"/>"##)?;
+    writeln!(
+        page,
+        r##"<path fill="#1f66bd" d="M0 .08h1v.09h-1z"/></pattern></defs>"##
     )
 }
 
-// How lines look: arrows, diamonds, the map's edge and the legend's boxes; and the hatch of open water.
-fn put_lines(text: &mut [u8], at: usize) -> usize {
-    let a = put_bytes(
-        text,
-        at,
-        b".s{fill:none;stroke:#222;stroke-linecap:round}\n.l{fill:none;stroke:#fff;stroke-linecap:round}\n",
-    );
-    let b = put_bytes(
-        text,
-        a,
-        b".q{fill:#fff;stroke:#222}\n.o{fill:none;stroke:#222}\n.p{fill:none;stroke:#aaa;stroke-width:.05}\n",
-    );
-    let c = put_bytes(
-        text,
-        b,
-        b".z{stroke:#aaa}\n</style>\n<defs><pattern id=\"w\" width=\"1\" height=\".25\" patternUnits=\"userSpaceOnUse\">",
-    );
-    put_bytes(
-        text,
-        c,
-        b"<path fill=\"#d8e8fa\" d=\"M0 0h1v.25h-1z\"/><path fill=\"#1f66bd\" d=\"M0 .08h1v.09h-1z\"/></pattern></defs>\n",
+fn write_style(page: &mut Page) -> fmt::Result {
+    writeln!(page, "<title>Recharge</title>\n<style type=\"text/css\">")?;
+    page.write_str(TEXTS)?;
+    page.write_str(CELLS)?;
+    page.write_str(LINES)?;
+    writeln!(page, "</style>")?;
+    write_hatch(page)
+}
+
+// The page's size, and a white page, so that a dark one does not show through.
+pub(crate) fn write_front(page: &mut Page, width: usize, height: usize) -> fmt::Result {
+    writeln!(page, r#"<?xml version="1.0" encoding="UTF-8"?>"#)?;
+    write!(page, r#"<svg xmlns="http://www.w3.org/2000/svg" "#)?;
+    write!(
+        page,
+        r#"xmlns:xlink="http://www.w3.org/1999/xlink" version="1.1" "#
+    )?;
+    writeln!(
+        page,
+        r#"width="{width}" height="{height}" viewBox="0 0 {width} {height}">"#
+    )?;
+    write_style(page)?;
+    writeln!(
+        page,
+        r##"<path fill="#fff" d="M0 0h{width}v{height}H0z"/>"##
     )
-}
-
-// A serial or a day of the year is never below zero.
-fn date_of(n: i32) -> u64 {
-    if n < 0 {
-        return 0;
-    }
-    n as u64
-}
-
-// A number of the days; 0 past the last.
-fn date_at(days: &[i32], place: usize) -> u64 {
-    if place < days.len() {
-        return date_of(days[place]);
-    }
-    0
 }
 
 // One number of the first day, and of the last where that is another.
-fn put_span(text: &mut [u8], at: usize, count: u64, first: u64, last: u64) -> usize {
-    let next = put_with(text, at, b" ", first);
-    if count == 1 {
-        return next;
+#[derive(Clone, Copy)]
+struct Span {
+    first: i32,
+    last: Option<i32>,
+}
+
+impl Display for Span {
+    fn fmt<W: fmt::Write>(&self, f: &mut Formatter<W>) -> fmt::Result {
+        let first = self.first;
+        match self.last {
+            Some(last) => write!(f, "{first} to {last}"),
+            None => write!(f, "{first}"),
+        }
     }
-    put_with(text, next, b" to ", last)
 }
 
-fn put_serials(text: &mut [u8], at: usize, count: u64, first: u64, last: u64) -> usize {
-    let a = put_text_front(text, at, PANEL_X, PERIOD_Y);
-    let b = put_bytes(text, a, b"Serial");
-    let c = put_several(text, b, count);
-    let d = put_span(text, c, count, first, last);
-    let e = put_bytes(text, d, b" (");
-    let f = put_counted(text, e, count, b" day");
-    put_bytes(text, f, b"),</text>\n")
+// A number of the days; 0 past the last. A serial or a day of the year is never below zero.
+fn date_at(days: &[i32], place: usize) -> i32 {
+    days.get(place).copied().unwrap_or(0).max(0)
 }
 
-fn put_dates(text: &mut [u8], at: usize, count: u64, first: u64, last: u64) -> usize {
-    let a = put_text_front(text, at, PANEL_X, PERIOD_Y + LINE);
-    let b = put_bytes(text, a, b"day of year");
-    let c = put_span(text, b, count, first, last);
-    put_text_end(text, c)
+fn span_of(days: &[i32], number: usize) -> Span {
+    let others = (days.len() / DAY_NUMBERS).saturating_sub(1);
+    let last = date_at(days, (DAY_NUMBERS * others).saturating_add(number));
+    Span {
+        first: date_at(days, number),
+        last: if others == 0 { None } else { Some(last) },
+    }
 }
 
-fn put_period(text: &mut [u8], at: usize, days: &[i32]) -> usize {
+fn write_period(page: &mut Page, days: &[i32]) -> fmt::Result {
     let count = days.len() / DAY_NUMBERS;
     if count == 0 {
-        return put_text(text, at, PANEL_X, PERIOD_Y, b"No days");
+        return write_text(page, PANEL_X, PERIOD_Y, "No days");
     }
-    let last = DAY_NUMBERS * (count - 1);
-    let next = put_serials(
-        text,
-        at,
-        count as u64,
-        date_at(days, 0),
-        date_at(days, last),
-    );
-    put_dates(
-        text,
-        next,
-        count as u64,
-        date_at(days, 1),
-        date_at(days, last + 1),
+    let several = plural(count);
+    let serials = span_of(days, SERIAL);
+    let counted = Counted(count, "day");
+    write_text(
+        page,
+        PANEL_X,
+        PERIOD_Y,
+        format_args!("Serial{several} {serials} ({counted}),"),
+    )?;
+    let dates = span_of(days, DAY_OF_YEAR);
+    write_text(
+        page,
+        PANEL_X,
+        PERIOD_Y + LINE,
+        format_args!("day of year {dates}"),
     )
 }
 
-fn put_size(text: &mut [u8], at: usize, columns: u64, rows: u64, cells: u64) -> usize {
-    let a = put_counted(text, at, columns, b" column");
-    let b = put_bytes(text, a, b", ");
-    let c = put_counted(text, b, rows, b" row");
-    let d = put_bytes(text, c, b", ");
-    let e = put_counted(text, d, cells, b" cell");
-    put_text_end(text, e)
+fn write_size(page: &mut Page, frame: Frame, cells: usize) -> fmt::Result {
+    let columns = Counted(frame.columns, "column");
+    let rows = Counted(frame.rows, "row");
+    let cells = Counted(cells, "cell");
+    write_text(
+        page,
+        PANEL_X,
+        PERIOD_Y + 2 * LINE,
+        format_args!("{columns}, {rows}, {cells}"),
+    )
 }
 
-pub(crate) fn put_head(
-    text: &mut [u8],
-    at: usize,
-    frame: Frame,
-    cells: u64,
-    days: &[i32],
-) -> usize {
-    let a = put_bytes(
-        text,
-        at,
-        b"<text class=\"t\" x=\"24\" y=\"52\">Recharge</text>\n",
-    );
-    let b = put_period(text, a, days);
-    let c = put_text_front(text, b, PANEL_X, PERIOD_Y + 2 * LINE);
-    put_size(text, c, frame.columns, frame.rows, cells)
+pub(crate) fn write_head(page: &mut Page, frame: Frame, cells: usize, days: &[i32]) -> fmt::Result {
+    writeln!(
+        page,
+        r#"<text class="t" x="{PANEL_X}" y="52">Recharge</text>"#
+    )?;
+    write_period(page, days)?;
+    write_size(page, frame, cells)
 }

@@ -3,12 +3,14 @@
 
 mod cells;
 mod classes;
+mod directions;
 mod drawing;
 mod edges;
 mod frame;
 mod head;
 mod legend;
+mod marks;
 mod parts;
-mod sums;
+mod squares;
 
 pub use drawing::put_map;

@@ -1,39 +1,31 @@
 // Parts of the map's markup that are written in many places.
-use words::{put_byte, put_bytes, put_number};
+use std::fmt;
+use std::fmt::{Display, Formatter, Write};
+use words::Page;
 
-// Words and a number behind them.
-pub(crate) fn put_with(text: &mut [u8], at: usize, words: &[u8], n: u64) -> usize {
-    let next = put_bytes(text, at, words);
-    put_number(text, next, n)
+pub(crate) fn write_text(
+    page: &mut Page,
+    x: usize,
+    y: usize,
+    words: impl Display + Drop,
+) -> fmt::Result {
+    writeln!(page, r#"<text x="{x}" y="{y}">{words}</text>"#)
 }
 
-// The front of a text at this place.
-pub(crate) fn put_text_front(text: &mut [u8], at: usize, x: u64, y: u64) -> usize {
-    let a = put_with(text, at, b"<text x=\"", x);
-    let b = put_with(text, a, b"\" y=\"", y);
-    put_bytes(text, b, b"\">")
+// The end of a word for so many things.
+pub(crate) fn plural(n: usize) -> &'static str {
+    if n == 1 { "" } else { "s" }
 }
 
-pub(crate) fn put_text_end(text: &mut [u8], at: usize) -> usize {
-    put_bytes(text, at, b"</text>\n")
-}
+// So many things, by the word for one.
+#[derive(Clone, Copy)]
+pub(crate) struct Counted(pub(crate) usize, pub(crate) &'static str);
 
-pub(crate) fn put_text(text: &mut [u8], at: usize, x: u64, y: u64, words: &[u8]) -> usize {
-    let a = put_text_front(text, at, x, y);
-    let b = put_bytes(text, a, words);
-    put_text_end(text, b)
-}
-
-// A number of things, and the letter that several of them have at their end.
-pub(crate) fn put_counted(text: &mut [u8], at: usize, n: u64, thing: &[u8]) -> usize {
-    let a = put_number(text, at, n);
-    let b = put_bytes(text, a, thing);
-    put_several(text, b, n)
-}
-
-pub(crate) fn put_several(text: &mut [u8], at: usize, n: u64) -> usize {
-    if n == 1 {
-        return at;
+impl Display for Counted {
+    fn fmt<W: fmt::Write>(&self, f: &mut Formatter<W>) -> fmt::Result {
+        let number = self.0;
+        let thing = self.1;
+        let several = plural(number);
+        write!(f, "{number} {thing}{several}")
     }
-    put_byte(text, at, b's')
 }

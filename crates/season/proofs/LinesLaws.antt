@@ -29,9 +29,6 @@ module _ (days : List ℤ) (totals : List ℕ) where
   days_more k day ts long is are w v =
       rw (add-one k) (put_then long w (put_as _ v.put (λ t. day_line (is t).serial (are t))))
 
-  pub days_all : {r : ℕ} {l l' : List ℕ} (k count : ℕ) → k ≤ count → count ≤ k → Put 0 (day_lines days totals k) l l' r → Put 0 (day_lines days totals count) l l' r
-  days_all k count low high w = put_as _ w (ap (day_lines days totals) (omega arith))
-
   pub lines_ended :
       {mid r : ℕ} {l l₁ l₂ : List ℕ} (count n : ℕ) → length l ≤ farthest → count ≡ day_count days totals → n ≡ count
       → Put 0 (day_lines days totals count) l l₁ mid → Wrote most_end mid (end_line n) l₁ l₂ r

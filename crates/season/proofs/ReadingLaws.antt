@@ -3,7 +3,7 @@
 use mathlib.Core.Path.{◌≡◌, refl, sym, ap, ◌∙◌}
 use mathlib.Core.Bool.{false}
 use mathlib.Core.List.{List, []}
-use Prim.Native.Nat.{ℕ, zero, suc, ◌+◌, ◌*◌, ◌/◌, ◌%◌, ◌≤◌, ◌<◌}
+use Prim.Native.Nat.{ℕ, zero, suc, ◌+◌, ◌*◌, ◌≤◌, ◌<◌}
 use native.Mathlib.Nat.{add-zero, zero-add}
 use native.Mathlib.Numerals.{add-one}
 use native.Mathlib.Omega.{arith}
@@ -13,7 +13,8 @@ use lib.Seq.{sets}
 use mir.Syntax.{w32}
 use mir.Val.{SFits, to_z, of_z}
 use mir.Facts.{to_z-of_z, to_z_pos}
-use borrow.Author.Tests.{lt-ltb, le-ltb, ne_eqb, eq-eqb}
+use borrow.Author.Tests.{lt-ltb}
+use Rattle.std.specs.Prelude.{Result, Err}
 use Rattle.words.specs.Words.{words}
 use Rattle.words.specs.Numbers.{Word, good, bad, number, meaning_in}
 use Rattle.words.specs.Spans.{part, NextWord}
@@ -23,23 +24,8 @@ use Rattle.words.proofs.WordLaws.{words_few}
 use Rattle.lines.specs.Reading.{Reading, and_then, meant, reading}
 use Rattle.season.specs.Reading.{read_in, days_in, weather_in, ReadDays}
 use Rattle.season.specs.declared.reading.Read.TheVariants.{Number, Bad as NoNumber}
-use Rattle.season.specs.declared.reading.Weather.{Weather}
-use Rattle.season.specs.declared.reading.Weather.TheVariants.{Days, Bad, CutOff, TooMany}
-
--- so many numbers are a day cut off, too many, or days
-module _ (n room : ℕ) where
-  pub cut_off : (n % 7 ≡ 0 → ⊥) → CutOff n ≡ days_in n room
-  unfolding days_in
-  cut_off h = rw (ne_eqb (n % 7) 0 h) refl
-
-  module _ (whole : n % 7 ≡ 0) where
-    pub too_many : room < n → TooMany n ≡ days_in n room
-    unfolding days_in
-    too_many h = rw (eq-eqb (n % 7) 0 whole, lt-ltb room n h) refl
-
-    pub all_days : n ≤ room → Days (n / 7) ≡ days_in n room
-    unfolding days_in
-    all_days h = rw (eq-eqb (n % 7) 0 whole, le-ltb room n h) refl
+use Rattle.season.specs.declared.reading.WeatherError.{WeatherError}
+use Rattle.season.specs.declared.reading.WeatherError.TheVariants.{BadWord}
 
 -- a number that is read has at most nine digits
 number_fits : (m : Word) (z : ℤ) → Small m → Number z ≡ read_in m → SFits w32 z
@@ -119,14 +105,14 @@ module _ (text : List ℕ) (before now : List ℤ) (count start end : ℕ) (s : 
           sized = ap length is ∙ length-set now count z ∙ s.sized;
         }
 
-    pub bad_end : NoNumber ≡ read_in (number (part text start end)) → ReadDays text before now (Bad count)
+    pub bad_end : NoNumber ≡ read_in (number (part text start end)) → ReadDays text before now (Err (BadWord count))
     unfolding weather_in
     bad_end e =
         let l = bad_word before (reading text) now count (number (part text start end)) (reading (drop end text)) e (rw onward at s.left) in
         let n : length (reading text).numbers ≡ count = l.counted ∙ add-zero count in
         record { answer = rw (l.whole, n) refl; numbers = sym l.stored }
 
-  pub all_read : end ≤ start → (r : Weather) → r ≡ days_in count (length now) → ReadDays text before now r
+  pub all_read : end ≤ start → (r : Result ℕ WeatherError) → r ≡ days_in count (length now) → ReadDays text before now r
   unfolding weather_in reading meant
   all_read none r e =
       let l : Left before (reading text) now count (meant []) = rw (s.next.none none) at s.left in

@@ -4,5 +4,5 @@
 mod reading;
 mod writing;
 
-pub use reading::{Weather, read_days};
+pub use reading::{WeatherError, read_days};
 pub use writing::day_lines;

@@ -6,12 +6,11 @@ ghost use Rattle.season.specs.Reading.{read_in, days_in, ReadDays};
 use daybook::DAY_NUMBERS;
 use words::{Meaning, next_word, number};
 
-#[derive(Clone, Copy)]
-pub enum Weather {
-    // So many days, of seven numbers each.
-    Days(usize),
+// What is wrong with a period's weather.
+#[derive(Clone, Copy, Debug, PartialEq, Eq)]
+pub enum WeatherError {
     // A word that is no number: how many numbers stand before it.
-    Bad(usize),
+    BadWord(usize),
     // A last day that is cut off, or more numbers than the list holds: how many there are.
     CutOff(usize),
     TooMany(usize),
@@ -34,7 +33,7 @@ fn read_word(word: &[u8]) -> Read
     }
 }
 
-// Stores a number where the list has a place for it.
+// Stores a number where the list has a place for it; behind a borrow from `get_mut` the proof would know none of the list's numbers.
 fn store(days: &mut [i32], place: usize, number: i32)
     ensures { days.new ≡ set days.old place number }
 {
@@ -43,21 +42,22 @@ fn store(days: &mut [i32], place: usize, number: i32)
     }
 }
 
-// What so many numbers are, where the list holds so many.
-fn days_in(count: usize, room: usize) -> Weather
+// How many days so many numbers are, where the list holds so many.
+#[tactic(auto, unfolding(crate::specs::Reading::days_in))]
+fn days_in(count: usize, room: usize) -> Result<usize, WeatherError>
     ensures { result ≡ days_in count room }
 {
     if count % DAY_NUMBERS != 0 {
-        return Weather::CutOff(count);
+        return Err(WeatherError::CutOff(count));
     }
     if room < count {
-        return Weather::TooMany(count);
+        return Err(WeatherError::TooMany(count));
     }
-    Weather::Days(count / DAY_NUMBERS)
+    Ok(count / DAY_NUMBERS)
 }
 
-// Reads a text's numbers to the front of the lent list, as far as it goes.
-pub fn read_days(text: &[u8], days: &mut [i32]) -> Weather
+// Reads a text's numbers, seven for each day, to the front of the lent list, as far as it goes. How many days there are.
+pub fn read_days(text: &[u8], days: &mut [i32]) -> Result<usize, WeatherError>
     ensures { ReadDays text.now days.old days.new result }
 {
     let mut count = 0;
@@ -67,7 +67,7 @@ pub fn read_days(text: &[u8], days: &mut [i32]) -> Weather
         let end = word.end;
         match read_word(&text[start..end]) {
             Read::Number(number) => store(days, count, number),
-            Read::Bad => return Weather::Bad(count),
+            Read::Bad => return Err(WeatherError::BadWord(count)),
         }
         count += 1;
         word = next_word(text, end);

@@ -1,30 +1,18 @@
 // The days of a period as the lines that `balance` prints for them, written into a lent buffer as far as that goes.
-ghost use Rattle.std.specs.Prelude.{◌≡◌, min};
 ghost use Rattle.words.specs.Writing.{Put};
 ghost use Rattle.season.specs.Lines.{day_lines, lines_of};
 
 use daybook::{DAY_NUMBERS, day_at, totals_at};
 use lines::{ended, line, units};
 
-fn fewer(a: usize, b: usize) -> usize
-    ensures { result ≡ min a b }
-{
-    if a < b {
-        return a;
-    }
-    b
-}
-
 // The lines of the first days, so many.
 fn put_days(days: &[i32], totals: &[u64], count: usize, output: &mut [u8]) -> usize
     ensures { Put 0 (day_lines days.now totals.now count) output.old output.new result }
 {
     let mut next = 0;
-    let mut k = 0;
-    while k < count {
+    for k in 0..count {
         let day = day_at(days, k);
         next = line(output, next, day.serial, totals_at(totals, k));
-        k += 1;
     }
     next
 }
@@ -34,7 +22,7 @@ fn put_days(days: &[i32], totals: &[u64], count: usize, output: &mut [u8]) -> us
 pub fn day_lines(days: &[i32], totals: &[u64], output: &mut [u8]) -> usize
     ensures { Put 0 (lines_of days.now totals.now) output.old output.new result }
 {
-    let count = fewer(days.len() / DAY_NUMBERS, totals.len() / DAY_NUMBERS);
+    let count = (days.len() / DAY_NUMBERS).min(totals.len() / DAY_NUMBERS);
     let next = put_days(days, totals, count, output);
     ended(output, next, units(count))
 }

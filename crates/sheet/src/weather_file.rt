@@ -7,7 +7,7 @@ use crate::refusals::{say_cut_off, say_refusal, say_weather_word};
 use crate::saying::say_of;
 use recharge::period;
 use records::{Climate, Grid, Verdict};
-use season::{Weather, read_days};
+use season::{WeatherError, read_days};
 use std::rt::Files;
 
 #[derive(Clone, Copy)]
@@ -85,16 +85,16 @@ fn run_over(
 // Whether the weather's numbers are whole days. What is wrong with them is said.
 fn days_in(rt: &impl Eprint, folder: &[u8], weather: &[u8], days: &mut [i32]) -> Worked {
     match read_days(weather, days) {
-        Weather::Days(count) => Worked::Days(count),
-        Weather::Bad(place) => {
+        Ok(count) => Worked::Days(count),
+        Err(WeatherError::BadWord(place)) => {
             say_weather_word(rt, folder, weather, place);
             Worked::Wrong
         }
-        Weather::CutOff(count) => {
+        Err(WeatherError::CutOff(count)) => {
             say_cut_off(rt, folder, weather, count);
             Worked::Wrong
         }
-        Weather::TooMany(_) => {
+        Err(WeatherError::TooMany(_)) => {
             say_of(rt, folder, b"weather.txt", b": more than 20000 days\n");
             Worked::Wrong
         }

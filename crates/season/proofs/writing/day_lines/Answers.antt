@@ -5,5 +5,5 @@ use Rattle.season.proofs.writing.day_lines.Goals as goal
 
 pub returns : goal.returns
 returns c =
-    lines_ended _ _ _ _ (omega (arith, c.well_formed)) c.fewer-count.ensures c.units.ensures
+    lines_ended _ _ _ _ (omega (arith, c.well_formed)) c.min-count.ensures c.units.ensures
     c.put_days-next.ensures c.ended.ensures

@@ -1,9 +1,0 @@
--- `classes::past_last` is safe and ends: the cells that are left fall.
-use Rattle.std.proofs.Common.{◌-◌, ◌≤◌, length}
-use Rattle.map.proofs.classes.past_last.Given as goal
-
-abbrev pub invariant-loop-i : goal.invariant-loop-i
-invariant-loop-i l = l.i ≤ length l.marks
-
-abbrev pub decreases-loop-i : goal.decreases-loop-i
-decreases-loop-i l = length l.marks - l.i
