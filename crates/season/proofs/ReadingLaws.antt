@@ -14,22 +14,20 @@ use mir.Syntax.{w32}
 use mir.Val.{SFits, to_z, of_z}
 use mir.Facts.{to_z-of_z, to_z_pos}
 use borrow.Author.Tests.{lt-ltb}
-use Rattle.std.specs.Prelude.{Result, Err}
+use Rattle.std.specs.Prelude.{Some, None, Result, Err}
 use Rattle.words.specs.Words.{words}
-use Rattle.words.specs.Numbers.{Word, good, bad, number, meaning_in}
+use Rattle.words.specs.Numbers.{Word, good, bad, number, number_in}
 use Rattle.words.specs.Spans.{part, NextWord}
-use Rattle.words.specs.declared.numbers.Meaning.TheVariants.{Plain, Below, Bad as NoMeaning}
-use Rattle.words.proofs.NumberLaws.{NineDigits, Small, number_small, plain_small, below_small}
+use Rattle.words.proofs.NumberLaws.{NineDigits, Small, number_small}
 use Rattle.words.proofs.WordLaws.{words_few}
 use Rattle.lines.specs.Reading.{Reading, and_then, meant, reading}
-use Rattle.season.specs.Reading.{read_in, days_in, weather_in, ReadDays}
-use Rattle.season.specs.declared.reading.Read.TheVariants.{Number, Bad as NoNumber}
+use Rattle.season.specs.Reading.{days_in, weather_in, ReadDays}
 use Rattle.season.specs.declared.reading.WeatherError.{WeatherError}
 use Rattle.season.specs.declared.reading.WeatherError.TheVariants.{BadWord}
 
 -- a number that is read has at most nine digits
-number_fits : (m : Word) (z : ℤ) → Small m → Number z ≡ read_in m → SFits w32 z
-unfolding Small NineDigits read_in
+number_fits : (m : Word) (z : ℤ) → Small m → Some z ≡ number_in m → SFits w32 z
+unfolding Small NineDigits number_in
 number_fits (good (pos n)) z s e = let same : z ≡ pos n = cc in rw same (record { sfits = omega (arith, s) })
 number_fits (good (negsuc n)) z s e = let same : z ≡ negsuc n = cc in rw same (record { sfits = omega (arith, s) })
 number_fits bad z s e = absurd (let o : ◌≡◌ {A = ℕ} 0 1 = cc in omega arith)
@@ -42,9 +40,9 @@ pub record Left (before : List ℤ) (all : Reading) (now : List ℤ) (count : �
 
 module _ (before : List ℤ) (all : Reading) (now : List ℤ) (count : ℕ) where
   good_word :
-      (m : Word) (rest : Reading) (z : ℤ) → Number z ≡ read_in m → Left before all now count (and_then m rest)
+      (m : Word) (rest : Reading) (z : ℤ) → Some z ≡ number_in m → Left before all now count (and_then m rest)
       → Left before all (set now count z) (count + 1) rest
-  unfolding and_then read_in
+  unfolding and_then number_in
   good_word (good y) rest z e l =
       let same : z ≡ y = cc in
       record {
@@ -55,9 +53,9 @@ module _ (before : List ℤ) (all : Reading) (now : List ℤ) (count : ℕ) wher
   good_word bad rest z e l = absurd (let o : ◌≡◌ {A = ℕ} 0 1 = cc in omega arith)
 
   bad_word :
-      (m : Word) (rest : Reading) → NoNumber ≡ read_in m → Left before all now count (and_then m rest)
+      (m : Word) (rest : Reading) → None ≡ number_in m → Left before all now count (and_then m rest)
       → Left before all now count (record { numbers = []; whole = false })
-  unfolding and_then read_in
+  unfolding and_then number_in
   bad_word (good z) rest e l = absurd (let o : ◌≡◌ {A = ℕ} 0 1 = cc in omega arith)
   bad_word bad rest e l = l
 
@@ -92,7 +90,7 @@ module _ (text : List ℕ) (before now : List ℤ) (count start end : ℕ) (s : 
     count_few = omega (arith, s.few, ahead, s.next.inside more)
 
     pub next_number :
-        (z : ℤ) (now' : List ℤ) (start' end' : ℕ) → Number z ≡ read_in (number (part text start end)) → now' ≡ set now count (to_z w32 (of_z w32 z))
+        (z : ℤ) (now' : List ℤ) (start' end' : ℕ) → Some z ≡ number_in (number (part text start end)) → now' ≡ set now count (to_z w32 (of_z w32 z))
         → NextWord text end start' end' → Stands text before now' (count + 1) start' end'
     next_number z now' start' end' e wrote next =
         let word = part text start end in
@@ -105,7 +103,7 @@ module _ (text : List ℕ) (before now : List ℤ) (count start end : ℕ) (s : 
           sized = ap length is ∙ length-set now count z ∙ s.sized;
         }
 
-    pub bad_end : NoNumber ≡ read_in (number (part text start end)) → ReadDays text before now (Err (BadWord count))
+    pub bad_end : None ≡ number_in (number (part text start end)) → ReadDays text before now (Err (BadWord count))
     unfolding weather_in
     bad_end e =
         let l = bad_word before (reading text) now count (number (part text start end)) (reading (drop end text)) e (rw onward at s.left) in
@@ -118,51 +116,3 @@ module _ (text : List ℕ) (before now : List ℤ) (count start end : ℕ) (s : 
       let l : Left before (reading text) now count (meant []) = rw (s.next.none none) at s.left in
       let n : length (reading text).numbers ≡ count = l.counted ∙ add-zero count in
       record { answer = e ∙ rw (l.whole, n, s.sized) refl; numbers = sym l.stored }
-
--- a word's meaning as a number of 32 bits with its sign
-read_plain : (m : Word) (n : ℕ) → meaning_in m ≡ Plain n → Number (pos n) ≡ read_in m
-unfolding meaning_in read_in
-read_plain (good (pos k)) n e = cc
-read_plain (good (negsuc k)) n e = absurd (let o : ◌≡◌ {A = ℕ} 0 1 = cc in omega arith)
-read_plain bad n e = absurd (let o : ◌≡◌ {A = ℕ} 0 1 = cc in omega arith)
-
-less_suc : (k : ℕ) → pos 0 -ℤ pos (suc k) ≡ negsuc k
-less_suc k = rw (lt-ltb 0 (suc k) (omega arith)) (ap negsuc (omega arith))
-
-less_fits : (n : ℕ) → n < 1000000000 → SFits w32 (pos 0 -ℤ pos n)
-less_fits zero h = record { sfits = omega arith }
-less_fits (suc k) h = rw (less_suc k) (record { sfits = omega arith })
-
-read_below : (m : Word) (n : ℕ) → meaning_in m ≡ Below n → Number (pos 0 -ℤ pos n) ≡ read_in m
-unfolding meaning_in read_in
-read_below (good (pos k)) n e = absurd (let o : ◌≡◌ {A = ℕ} 0 1 = cc in omega arith)
-read_below (good (negsuc k)) n e = let same : suc k ≡ n = cc in rw (← same) (ap Number (less_suc k))
-read_below bad n e = absurd (let o : ◌≡◌ {A = ℕ} 0 1 = cc in omega arith)
-
-pub read_bad : (m : Word) → meaning_in m ≡ NoMeaning → NoNumber ≡ read_in m
-unfolding meaning_in read_in
-read_bad (good (pos k)) e = absurd (let o : ◌≡◌ {A = ℕ} 0 1 = cc in omega arith)
-read_bad (good (negsuc k)) e = absurd (let o : ◌≡◌ {A = ℕ} 0 1 = cc in omega arith)
-read_bad bad e = refl
-
-module _ (w : List ℕ) (n : ℕ) where
-  module _ (e : meaning_in (number w) ≡ Plain n) where
-    pub plain_fits : SFits w32 (pos n)
-    plain_fits = record { sfits = omega (arith, plain_small (number w) n (number_small w) e) }
-
-    pub plain_is : Number (to_z w32 n) ≡ read_in (number w)
-    plain_is = ap Number (to_z_pos w32 (omega (arith, plain_small (number w) n (number_small w) e))) ∙ read_plain (number w) n e
-
-  module _ (e : meaning_in (number w) ≡ Below n) where
-    small : n < 1000000000
-    small = below_small (number w) n (number_small w) e
-
-    pub minus_near : SFits w32 (pos n)
-    minus_near = record { sfits = omega (arith, small) }
-
-    pub minus_fits : SFits w32 (pos 0 -ℤ to_z w32 n)
-    minus_fits = rw (to_z_pos w32 {n = n} (omega (arith, small))) (less_fits n small)
-
-    pub minus_is : Number (to_z w32 (of_z w32 (pos 0 -ℤ to_z w32 n))) ≡ read_in (number w)
-    minus_is =
-        ap Number (to_z-of_z minus_fits ∙ ap (λ (z : ℤ). pos 0 -ℤ z) (to_z_pos w32 {n = n} (omega (arith, small)))) ∙ read_below (number w) n e

@@ -1,17 +1,9 @@
 -- A period's weather: the numbers of a text before its first bad word, seven for each day.
 use Rattle.std.specs.Prelude.{cond, not, List, Result, Ok, Err, ◌≡◌, ℕ, ◌/◌, ◌%◌, eqb, ltb, ℤ, length}
 use Rattle.std.proofs.lemmas.List.Edits.{sets}
-use Rattle.words.specs.Numbers.{Word, good, bad}
 use Rattle.lines.specs.Reading.{Reading, reading}
-use Rattle.season.specs.declared.reading.Read.{Read}
-use Rattle.season.specs.declared.reading.Read.TheVariants.{Number, Bad as NoNumber}
 use Rattle.season.specs.declared.reading.WeatherError.{WeatherError}
 use Rattle.season.specs.declared.reading.WeatherError.TheVariants.{BadWord, CutOff, TooMany}
-
--- a word's meaning as the code gives it
-unfoldable pub read_in : Word → Read
-read_in (good z) = Number z
-read_in bad = NoNumber
 
 -- so many numbers, where the list holds `room`: a day that is cut off is told before a list that is too short
 unfoldable pub days_in : ℕ → ℕ → Result ℕ WeatherError

@@ -1,10 +1,9 @@
 // A period's weather out of a text: its numbers, seven for each day, read word by word into a lent list.
 ghost use Rattle.std.specs.Prelude.{◌≡◌, set};
-ghost use Rattle.words.specs.Numbers.{number as number_of};
-ghost use Rattle.season.specs.Reading.{read_in, days_in, ReadDays};
+ghost use Rattle.season.specs.Reading.{days_in, ReadDays};
 
 use daybook::DAY_NUMBERS;
-use words::{Meaning, next_word, number};
+use words::{next_word, number};
 
 // What is wrong with a period's weather.
 #[derive(Clone, Copy, Debug, PartialEq, Eq)]
@@ -14,23 +13,6 @@ pub enum WeatherError {
     // A last day that is cut off, or more numbers than the list holds: how many there are.
     CutOff(usize),
     TooMany(usize),
-}
-
-// A word: its number, or none.
-#[derive(Clone, Copy)]
-enum Read {
-    Number(i32),
-    Bad,
-}
-
-fn read_word(word: &[u8]) -> Read
-    ensures { result ≡ read_in (number_of word.now) }
-{
-    match number(word) {
-        Meaning::Plain(n) => Read::Number(n as i32),
-        Meaning::Below(n) => Read::Number(-(n as i32)),
-        Meaning::Bad => Read::Bad,
-    }
 }
 
 // Stores a number where the list has a place for it; behind a borrow from `get_mut` the proof would know none of the list's numbers.
@@ -65,10 +47,10 @@ pub fn read_days(text: &[u8], days: &mut [i32]) -> Result<usize, WeatherError>
     while word.start < word.end {
         let start = word.start;
         let end = word.end;
-        match read_word(&text[start..end]) {
-            Read::Number(number) => store(days, count, number),
-            Read::Bad => return Err(WeatherError::BadWord(count)),
-        }
+        let Some(n) = number(&text[start..end]) else {
+            return Err(WeatherError::BadWord(count));
+        };
+        store(days, count, n);
         count += 1;
         word = next_word(text, end);
     }

@@ -7,15 +7,15 @@ use Rattle.season.proofs.reading.read_days.Goals as goal
 pub loop-word-init : goal.loop-word-init
 loop-word-init c = stands_first _ _ _ _ c.next_word-word.ensures
 
-pub slice_bounds-read_word-end : goal.slice_bounds-read_word-end
-slice_bounds-read_word-end c = c.loop-word.invariant.next.inside c.loop-word-test.true
+pub slice_bounds-number-end : goal.slice_bounds-number-end
+slice_bounds-number-end c = c.loop-word.invariant.next.inside c.loop-word-test.true
 
-pub shape_of-days-in-Bad : goal.shape_of-days-in-Bad
-shape_of-days-in-Bad c = c.loop-word.invariant.sized
+pub shape_of-days-in_default : goal.shape_of-days-in_default
+shape_of-days-in_default c = c.loop-word.invariant.sized
 
-pub returns-in-Bad : goal.returns-in-Bad
-returns-in-Bad c =
-    bad_end _ _ _ _ _ _ c.loop-word.invariant c.loop-word-test.true (sym c.in-Bad.is ∙ c.read_word.ensures)
+pub returns-in_default : goal.returns-in_default
+returns-in_default c =
+    bad_end _ _ _ _ _ _ c.loop-word.invariant c.loop-word-test.true (sym c.in_default.is ∙ c.number.ensures)
 
 pub overflow_add-count : goal.overflow_add-count
 overflow_add-count c =
@@ -28,7 +28,7 @@ loop-word-smaller c =
 pub loop-word-preserved : goal.loop-word-preserved
 loop-word-preserved c =
     next_number _ _ _ _ _ _ c.loop-word.invariant c.loop-word-test.true _ _ _ _
-    (sym c.in-Number.is ∙ c.read_word.ensures) c.store.ensures c.next_word-word-in-loop-word.ensures
+    (sym c.in-Some.is ∙ c.number.ensures) c.store.ensures c.next_word-word-in-loop-word.ensures
 
 pub shape_of-days : goal.shape_of-days
 shape_of-days c = c.loop-word.invariant.sized
