@@ -21,8 +21,8 @@ use Rattle.text.specs.Run.{most_text, Coded}
 use Rattle.lines.specs.Telling.{line_of, told_in, Tells}
 use Rattle.words.specs.Writing.{Wrote}
 use Rattle.lines.specs.Writing.{most_line, most_end}
-use Rattle.lines.specs.declared.telling.Told.{Told}
-use Rattle.lines.specs.declared.telling.Told.TheVariants.{More, Last}
+use Rattle.std.proofs.Common.{Continue, Break}
+use Rattle.std.specs.declared.ops.ControlFlow.{ControlFlow}
 use Rattle.text.specs.declared.taking.Layout.{Layout}
 use Rattle.records.proofs.FrontLaws.{parts, Room}
 use Rattle.text.proofs.OneDayLaws.{coded_day}
@@ -114,9 +114,9 @@ module _ (ns : List ℕ) (s : Setup) (st₀ : State) (r₀ : Results) (before no
       more_text o e ev = rw (day_first, ← e, ev) refl
 
       pub told_last :
-          (v : Verdict) (left : Results) (t : Totals) (st' : State) (after : List ℕ) (told : Told) (next : ℕ)
+          (v : Verdict) (left : Results) (t : Totals) (st' : State) (after : List ℕ) (told : ControlFlow ℕ ℕ) (next : ℕ)
           → record { verdict = v; results = left; totals = t; state = st' } ≡ day_of s st r d
-          → Tells at d.serial t v now after told → told ≡ Last next
+          → Tells at d.serial t v now after told → told ≡ Break next
           → Wrote most_text 0 (days_text s st₀ r₀ 0 days) before after next
       unfolding line_of told_in
       told_last accepted left t st' after told next e w is = absurd (let result = w.result in let z : ◌≡◌ {A = ℕ} 0 1 = cc in omega arith)
@@ -127,9 +127,9 @@ module _ (ns : List ℕ) (s : Setup) (st₀ : State) (r₀ : Results) (before no
           (omega (arith, u.placed, few_days ns coded))
 
       pub told_more :
-          (v : Verdict) (left held : Results) (t : Totals) (st' : State) (after : List ℕ) (told : Told) (next : ℕ) → held ≡ left
+          (v : Verdict) (left held : Results) (t : Totals) (st' : State) (after : List ℕ) (told : ControlFlow ℕ ℕ) (next : ℕ) → held ≡ left
           → record { verdict = v; results = left; totals = t; state = st' } ≡ day_of s st r d
-          → Tells at d.serial t v now after told → told ≡ More next
+          → Tells at d.serial t v now after told → told ≡ Continue next
           → Underway s st₀ r₀ days before after st' held next (done + 1) (k + 1)
       unfolding line_of told_in
       told_more accepted left held t st' after told next same e w is =
@@ -148,8 +148,7 @@ module _ (ns : List ℕ) (s : Setup) (st₀ : State) (r₀ : Results) (before no
       told_more (refused why) left held t st' after told next same e w is = absurd (let result = w.result in let z : ◌≡◌ {A = ℕ} 0 1 = cc in omega arith)
 
 -- the loop over the days before day k: the stores and the lent arrays are as long as they were, and the run is underway
-pub record Running (n count : ℕ) (s : Setup) (st₀ : State) (ds : List Day) (before now : List ℕ) (st : State) (i o e r j : List ℕ) (at done k : ℕ) : Type 0 where
-  pub within : k ≤ count
+pub record Running (n : ℕ) (s : Setup) (st₀ : State) (ds : List Day) (before now : List ℕ) (st : State) (i o e r j : List ℕ) (at done k : ℕ) : Type 0 where
   pub soils : length st.soil ≡ length st₀.soil
   pub snows : length st.snow ≡ length st₀.snow
   pub room : Room n i o e r j

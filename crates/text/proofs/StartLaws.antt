@@ -7,9 +7,8 @@ use lib.ListN.{length, take, replicate}
 use Rattle.theory.specs.Lists.{made}
 use Rattle.theory.proofs.ListLaws.{made_length}
 use Rattle.paper.specs.Day.{Fresh, fresh_of, no_results}
-use Rattle.paper.specs.Refusals.{Verdict, accepted, refused, Refusal}
+use Rattle.paper.specs.Refusals.{accepted, refused, Refusal}
 use Rattle.paper.specs.Setup as paper
-use Rattle.paper.specs.State.{State}
 use Rattle.records.specs.Grids.{climate_as, setup_as}
 use Rattle.records.specs.declared.grids.Grid.{Grid}
 use Rattle.records.specs.declared.grids.Climate.{Climate}
@@ -64,23 +63,19 @@ module _
       abbrev first : Fresh
       first = fresh_of (setup ns) (replicate (cell_count ns) 0) (replicate (cell_count ns) 0)
 
-      module _ (st : State) where
-        -- what the library says of the slices is what the paper says of the setup
-        of_setup :
-            (v : Verdict) → record { verdict = v; state = st } ≡ fresh_of here soil snow → record { verdict = v; state = st } ≡ first
-        of_setup v q = q ∙ (λ k. fresh_of (same_setup k) (lent.soils k) (lent.snows k))
+      -- what the library says of the slices is what the paper says of the setup
+      of_setup : (f : Fresh) → f ≡ fresh_of here soil snow → f ≡ first
+      of_setup f q = q ∙ (λ k. fresh_of (same_setup k) (lent.soils k) (lent.snows k))
 
-        pub start_refused :
-            (v : Verdict) (why : Refusal) → record { verdict = v; state = st } ≡ fresh_of here soil snow → v ≡ refused why
-            → run_text ns ≡ refusal why
-        unfolding run_text start_text fresh_text
-        start_refused v why q e =
-            ap (fresh_text (setup ns) (made (day_count ns) (day_at ns)) first) (sym (ap (λ (f : Fresh). f.verdict) (of_setup v q)) ∙ e)
+      pub start_refused : (f : Fresh) (why : Refusal) → f ≡ fresh_of here soil snow → f.verdict ≡ refused why → run_text ns ≡ refusal why
+      unfolding run_text start_text fresh_text
+      start_refused f why q e =
+          ap (fresh_text (setup ns) (made (day_count ns) (day_at ns)) first) (sym (ap (λ (f : Fresh). f.verdict) (of_setup f q)) ∙ e)
 
-        pub start_runs :
-            (v : Verdict) → record { verdict = v; state = st } ≡ fresh_of here soil snow → v ≡ accepted
-            → run_text ns ≡ days_text here st (no_results (length direction)) 0 (made (day_count ns) (day_at ns))
-        unfolding run_text start_text fresh_text paper.cells_of cell_count setup
-        start_runs v q e =
-            ap (fresh_text (setup ns) (made (day_count ns) (day_at ns)) first) (sym (ap (λ (f : Fresh). f.verdict) (of_setup v q)) ∙ e)
-            ∙ sym (λ k. days_text (same_setup k) (of_setup v q k).state (no_results (each k)) 0 (made (day_count ns) (day_at ns)))
+      pub start_runs :
+          (f : Fresh) → f ≡ fresh_of here soil snow → f.verdict ≡ accepted
+          → run_text ns ≡ days_text here f.state (no_results (length direction)) 0 (made (day_count ns) (day_at ns))
+      unfolding run_text start_text fresh_text paper.cells_of cell_count setup
+      start_runs f q e =
+          ap (fresh_text (setup ns) (made (day_count ns) (day_at ns)) first) (sym (ap (λ (f : Fresh). f.verdict) (of_setup f q)) ∙ e)
+          ∙ sym (λ k. days_text (same_setup k) (of_setup f q k).state (no_results (each k)) 0 (made (day_count ns) (day_at ns)))

@@ -1,5 +1,5 @@
 -- The program `balance`: all that it prints for an input, in the order of the paper's tests.
-use Rattle.std.specs.Prelude.{Bool, cond, not, ◌&&◌, List, [], ◌∷◌, ◌++◌, ℕ, suc, ◌+◌, ◌*◌, ◌-◌, ◌/◌, ◌%◌, eqb, leb, ltb, ℤ, length, get_or, replicate}
+use Rattle.std.specs.Prelude.{Bool, cond, not, ◌&&◌, List, [], ◌∷◌, ◌++◌, ℕ, suc, ◌+◌, ◌*◌, ◌-◌, ◌/◌, ◌%◌, eqb, leb, ltb, ℤ, length, get_or, replicate, Result, Ok, Err}
 use Rattle.theory.specs.Lists.{made}
 use Rattle.paper.specs.Limits.{within, most_covers}
 use Rattle.paper.specs.Setup.{Setpoints, Setup, cells, grid_fits}
@@ -7,8 +7,7 @@ use Rattle.paper.specs.State.{State, Day}
 use Rattle.paper.specs.Refusals.{Verdict, accepted, refused}
 use Rattle.paper.specs.Day.{Results, Outcome, Fresh, no_results, fresh_of, day_of}
 use Rattle.lines.specs.Reading.{Reading, reading, most_bytes, negatives, codes, signed}
-use Rattle.text.specs.declared.screening.Screened.{Screened}
-use Rattle.text.specs.declared.screening.Screened.TheVariants.{Refused, Ready}
+use Rattle.text.specs.declared.screening.BadText.{BadText}
 use Rattle.lines.specs.Lines.{day_line, end_line, refused_line, refusal}
 
 -- a negative direction is a fault of its cell: its group then stands as 0, which is outside 1 to 4
@@ -96,18 +95,21 @@ run_text ns =
     start_text (setup ns) (made (day_count ns) (day_at ns))
     (fresh_of (setup ns) (replicate (cell_count ns) 0) (replicate (cell_count ns) 0))
 
--- the tests before the run: test 1 and the cover count, each with its missing numbers before it, then the missing numbers of the rest
-unfoldable pub screen : List ℕ → Screened
-screen ns =
-    cond (ltb (length ns) 2) (Refused 11 (length ns))
-    (cond (not (grid_fits (setup ns).grid)) (Refused 1 0)
-    (cond (ltb (length ns) 5) (Refused 11 (length ns))
-    (cond (not (within 1 most_covers (cover_count ns))) (Refused 3 0)
-    (cond (not (is_complete ns)) (Refused 11 (length ns)) (Ready (cell_count ns))))))
+abbrev pub unfit : {A : Type 0} → ℕ → ℕ → Result A BadText
+unfit number place = Err (record { number = number; place = place })
 
-unfoldable pub screen_text : List ℕ → Screened → List ℕ
-screen_text ns (Refused number place) = refused_line number place
-screen_text ns (Ready cells) = run_text ns
+-- the tests before the run: test 1 and the cover count, each with its missing numbers before it, then the missing numbers of the rest
+unfoldable pub screen : List ℕ → Result ℕ BadText
+screen ns =
+    cond (ltb (length ns) 2) (unfit 11 (length ns))
+    (cond (not (grid_fits (setup ns).grid)) (unfit 1 0)
+    (cond (ltb (length ns) 5) (unfit 11 (length ns))
+    (cond (not (within 1 most_covers (cover_count ns))) (unfit 3 0)
+    (cond (not (is_complete ns)) (unfit 11 (length ns)) (Ok (cell_count ns))))))
+
+unfoldable pub screen_text : List ℕ → Result ℕ BadText → List ℕ
+screen_text ns (Err why) = refused_line why.number why.place
+screen_text ns (Ok cells) = run_text ns
 
 unfoldable pub numbers_text : List ℕ → List ℕ
 numbers_text ns = screen_text ns (screen ns)

@@ -1,13 +1,11 @@
 -- A run of the program: what its functions ask of the input's numbers and of the buffer, and what they leave in it.
-use Rattle.std.specs.Prelude.{cond, List, ◌≡◌, ℕ, ◌≤◌, ◌<◌, ltb, length, get_or, replicate}
+use Rattle.std.specs.Prelude.{cond, List, ◌≡◌, ℕ, ◌≤◌, ◌<◌, ltb, length, get_or, replicate, Option, Some, None}
 use Rattle.std.proofs.lemmas.List.Edits.{sets}
 use Rattle.paper.specs.Limits.{most_cells, most_covers}
 use Rattle.lines.specs.Reading.{most_numbers, no_number}
 use Rattle.text.specs.Program.{cover_count, cell_count, days_from, printed}
 use Rattle.text.specs.Taking.{layout_in}
 use Rattle.text.specs.declared.taking.Layout.{Layout}
-use Rattle.text.specs.declared.program.Written.{Written}
-use Rattle.text.specs.declared.program.Written.TheVariants.{NoRoom, Bytes}
 
 -- room for any text: 65,536 bytes hold at most 32,768 numbers, so 4,681 days of a line each, and a last line
 abbrev pub most_text : ℕ
@@ -40,7 +38,7 @@ pub record DaysReady (ns : List ℕ) (layout : Layout) (direction : List ℕ) : 
   pub few : length direction ≤ most_cells
 
 -- the program's promise: without room nothing is written; else the whole text, from the buffer's front on, and its length, which is within the buffer
-pub record Printed (input before after : List ℕ) (r : Written) : Type 0 where
-  pub answer : r ≡ cond (ltb (length before) most_text) NoRoom (Bytes (length (printed input)))
+pub record Printed (input before after : List ℕ) (r : Option ℕ) : Type 0 where
+  pub answer : r ≡ cond (ltb (length before) most_text) None (Some (length (printed input)))
   pub buffer : after ≡ cond (ltb (length before) most_text) before (sets before 0 (printed input))
   pub short : most_text ≤ length before → length (printed input) ≤ most_text

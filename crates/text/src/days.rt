@@ -10,8 +10,9 @@ ghost use Rattle.words.specs.Writing.{Wrote};
 
 use crate::fields::day_in;
 use crate::taking::Layout;
-use lines::{Told, ended, tell};
+use lines::{ended, tell};
 use records::{Climate, Grid, MOST_CELLS, Past};
+use std::ops::ControlFlow;
 
 // The days from a state on, up to the first that is refused, and the last line. The results of every cell are not printed: their arrays are made
 // once for all days, and a day finds in them what the day before left.
@@ -44,8 +45,7 @@ pub(crate) fn days(
     let mut past = past;
     let mut at = 0;
     let mut done: u64 = 0;
-    let mut k = 0;
-    while k < count {
+    for k in 0..count {
         let day = day_in(numbers, from, k);
         let answer = recharge::day(
             grid,
@@ -62,16 +62,14 @@ pub(crate) fn days(
             &mut evapotranspired[..n],
             &mut recharged[..n],
             &mut rejected[..n],
-            past,
+            &mut past,
             day,
         );
         match tell(output, at, day.serial, answer) {
-            Told::More(next) => at = next,
-            Told::Last(next) => return next,
+            ControlFlow::Continue(next) => at = next,
+            ControlFlow::Break(next) => return next,
         }
-        past = answer.past;
         done += 1;
-        k += 1;
     }
     ended(output, at, done)
 }

@@ -8,7 +8,10 @@ ghost use Rattle.text.specs.Laying.{grid_in, climate_in, held, degrees, day_from
 
 use covers::ENTRY_NUMBERS;
 use lines::{NEGATIVES, NO_NUMBER};
-use records::{Climate, DayRecord, Depth, FrostIndex, Grid, MOST_CELLS, Season, Setpoints, TenthF, index_of, wide};
+use records::{
+    Climate, DayRecord, Depth, FrostIndex, Grid, MOST_CELLS, Season, Setpoints, TenthF, index_of,
+    wide,
+};
 
 // The numbers before the cover table: width, height, first, last and the count of covers.
 pub const FRONT_NUMBERS: usize = 5;
@@ -26,10 +29,7 @@ const LOWEST: i32 = -999999999;
 pub fn number_at(numbers: &[u32], place: usize) -> u32
     ensures { result ≡ get_or numbers.now place 0 }
 {
-    if place < numbers.len() {
-        return numbers[place];
-    }
-    0
+    numbers.get(place).copied().unwrap_or(0)
 }
 
 pub fn grid_in(numbers: &[u32]) -> Grid
@@ -65,11 +65,7 @@ pub(crate) fn cells_from(numbers: &[u32]) -> usize
 fn cells_held(numbers: &[u32]) -> usize
     ensures { result ≡ min (cell_count numbers.now) most_cells }
 {
-    let cells = grid_in(numbers).cells();
-    if cells < MOST_CELLS {
-        return cells;
-    }
-    MOST_CELLS
+    grid_in(numbers).cells().min(MOST_CELLS)
 }
 
 // One of each cell's four numbers, at the front of an array: 0 its direction, 1 its cover, 3 its water.
@@ -80,10 +76,8 @@ fn column(numbers: &[u32], which: usize) -> [u32; MOST_CELLS]
     let from = cells_from(numbers);
     let count = cells_held(numbers);
     let mut cells = [0u32; MOST_CELLS];
-    let mut i = 0;
-    while i < count {
+    for i in 0..count {
         cells[i] = number_at(numbers, from + CELL_NUMBERS * i + which);
-        i += 1;
     }
     cells
 }
@@ -121,12 +115,10 @@ pub fn groups_in(numbers: &[u32]) -> [u32; MOST_CELLS]
     let from = cells_from(numbers);
     let count = cells_held(numbers);
     let mut cells = [0u32; MOST_CELLS];
-    let mut i = 0;
-    while i < count {
+    for i in 0..count {
         let direction = number_at(numbers, from + CELL_NUMBERS * i);
         let given = number_at(numbers, from + CELL_NUMBERS * i + 2);
         cells[i] = group(direction, given);
-        i += 1;
     }
     cells
 }

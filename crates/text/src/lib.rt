@@ -12,5 +12,6 @@ pub use fields::{
     FRONT_NUMBERS, climate_in, covers_in, day_in, directions_in, grid_in, groups_in, number_at,
     waters_in,
 };
-pub use program::{MOST_TEXT, Written, balance_text};
-pub use taking::{Layout, Taken, take_up};
+pub use program::{MOST_TEXT, balance_text};
+pub use screening::BadText;
+pub use taking::{Layout, take_up};

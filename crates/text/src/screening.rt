@@ -8,12 +8,11 @@ use covers::ENTRY_NUMBERS;
 use lines::{BAD_TEXT, units};
 use records::{Grid, index_of};
 
-#[derive(Clone, Copy)]
-pub(crate) enum Screened {
-    // A refusal's number and place.
-    Refused(u64, u64),
-    // The count of cells.
-    Ready(usize),
+// What is wrong with a text before anything is run: the refusal's number and place.
+#[derive(Clone, Copy, Debug, PartialEq, Eq)]
+pub struct BadText {
+    pub number: u64,
+    pub place: u64,
 }
 
 const MOST_COVERS: u32 = 64;
@@ -34,32 +33,49 @@ fn complete(count: usize, needed: usize) -> bool
     (count - needed) % DAY_NUMBERS == 0
 }
 
-pub(crate) fn screen(numbers: &[u32]) -> Screened
+// A text that breaks off after so many numbers.
+fn cut_off(count: usize) -> BadText
+    ensures { result ≡ record { number = 11; place = count } }
+{
+    BadText {
+        number: BAD_TEXT,
+        place: units(count),
+    }
+}
+
+// The tests in the paper's order; of numbers that pass them all, how many cells there are.
+pub(crate) fn screen(numbers: &[u32]) -> Result<usize, BadText>
     ensures { result ≡ screened numbers.now }
 {
     let count = numbers.len();
     if count < 2 {
-        return Screened::Refused(BAD_TEXT, units(count));
+        return Err(cut_off(count));
     }
     let width = numbers[0];
     let height = numbers[1];
     let grid = Grid { width, height };
     if !grid.fits() {
-        return Screened::Refused(1, 0);
+        return Err(BadText {
+            number: 1,
+            place: 0,
+        });
     }
     if count < FRONT_NUMBERS {
-        return Screened::Refused(BAD_TEXT, units(count));
+        return Err(cut_off(count));
     }
     let covers = numbers[4];
     if !covers_fit(covers) {
-        return Screened::Refused(3, 0);
+        return Err(BadText {
+            number: 3,
+            place: 0,
+        });
     }
     let cells = grid.cells();
     if !complete(
         count,
         FRONT_NUMBERS + ENTRY_NUMBERS * index_of(covers) + CELL_NUMBERS * cells,
     ) {
-        return Screened::Refused(BAD_TEXT, units(count));
+        return Err(cut_off(count));
     }
-    Screened::Ready(cells)
+    Ok(cells)
 }

@@ -10,7 +10,7 @@ use crate::fields::{
 };
 use crate::taking::Layout;
 use lines::refusal;
-use records::{MOST_CELLS};
+use records::MOST_CELLS;
 
 // The fresh state, and the days from it on; or its refusal.
 fn begun(
@@ -30,19 +30,15 @@ fn begun(
 {
     let grid = grid_in(numbers);
     let climate = climate_in(numbers);
-    let start = recharge::fresh(
+    let fresh = recharge::fresh(
         grid, climate, covers, direction, cover, group, water, soil, snow,
     );
-    let verdict = start.verdict;
-    match verdict {
+    match fresh {
         Err(why) => refusal(output, 0, why),
-        Ok(()) => {
-            let past = start.past;
-            days(
-                numbers, layout, grid, climate, covers, direction, cover, group, water, soil, snow,
-                past, output,
-            )
-        }
+        Ok(past) => days(
+            numbers, layout, grid, climate, covers, direction, cover, group, water, soil, snow,
+            past, output,
+        ),
     }
 }
 

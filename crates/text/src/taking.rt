@@ -4,8 +4,8 @@ ghost use Rattle.text.specs.Program.{screen as screenOf};
 ghost use Rattle.text.specs.Taking.{taken_in, TakenUp};
 
 use crate::fields::{CELL_NUMBERS, DAY_NUMBERS, cells_from};
-use crate::screening::{Screened, screen};
-use lines::{BAD_TEXT, Form, MOST_NUMBERS, read, units};
+use crate::screening::{BadText, screen};
+use lines::{BAD_TEXT, BadForm, MOST_NUMBERS, read, units};
 
 // Where the parts of a text stand among its numbers.
 #[derive(Clone, Copy)]
@@ -19,44 +19,36 @@ pub struct Layout {
     pub days: usize,
 }
 
-#[derive(Clone, Copy)]
-pub enum Taken {
-    // A refusal's number and place.
-    Refused(u64, u64),
-    Ready(Layout),
-}
-
 // The numbers of a text of good form.
-fn screened(numbers: &[u32]) -> Taken
+fn screened(numbers: &[u32]) -> Result<Layout, BadText>
     ensures { result ≡ taken_in numbers.now (screenOf numbers.now) }
 {
-    match screen(numbers) {
-        Screened::Refused(number, place) => Taken::Refused(number, place),
-        Screened::Ready(cells) => {
-            let count = numbers.len();
-            let cells_from = cells_from(numbers);
-            let days_from = cells_from + CELL_NUMBERS * cells;
-            let days = (count - days_from) / DAY_NUMBERS;
-            Taken::Ready(Layout {
-                numbers: count,
-                cells,
-                cells_from,
-                days_from,
-                days,
-            })
-        }
-    }
+    let cells = screen(numbers)?;
+    let count = numbers.len();
+    let cells_from = cells_from(numbers);
+    let days_from = cells_from + CELL_NUMBERS * cells;
+    let days = (count - days_from) / DAY_NUMBERS;
+    Ok(Layout {
+        numbers: count,
+        cells,
+        cells_from,
+        days_from,
+        days,
+    })
 }
 
 // Reads a text's numbers to the front of the lent array, and says where its parts stand among them, or what is wrong.
-pub fn take_up(input: &[u8], numbers: &mut [u32; MOST_NUMBERS]) -> Taken
+pub fn take_up(input: &[u8], numbers: &mut [u32; MOST_NUMBERS]) -> Result<Layout, BadText>
     ensures { TakenUp input.now numbers.old numbers.new result }
 {
     match read(input, numbers) {
-        Form::Whole(count) => {
+        Ok(count) => {
             let all: &[u32] = numbers;
             screened(&all[..count])
         }
-        Form::Broken(count) => Taken::Refused(BAD_TEXT, units(count)),
+        Err(BadForm(count)) => Err(BadText {
+            number: BAD_TEXT,
+            place: units(count),
+        }),
     }
 }

@@ -8,20 +8,13 @@ use Rattle.paper.specs.Day.{Results, no_results}
 use Rattle.records.specs.Grids.{setup_as}
 use Rattle.records.specs.Past.{state_as}
 use Rattle.records.specs.Days.{day_as}
-use Rattle.records.specs.Verdicts.{verdict_as}
-use Rattle.records.specs.Answers.{totals_as, results_as}
+use Rattle.records.specs.Answers.{answered, totals_told, results_as}
 use Rattle.text.specs.Program.{day_count, day_at}
 use Rattle.records.proofs.FrontLaws.{parts, Room, no_results_lem, room, after, left}
+use Rattle.records.proofs.AnswerLaws.{told_is}
 use Rattle.text.proofs.RunLaws.{underway_first, day_count_lem, this_day, count_few, all_told, told_last, told_more}
 use Rattle.text.proofs.days.days.Goals.{After-day-answer, After-day_in-day}
 use Rattle.text.proofs.days.days.Goals as goal
-
--- apart from the places, of which `omega` would read all that is known
-none_before : {n : ℕ} → 0 ≤ n
-none_before = omega arith
-
-next_turn : {k n : ℕ} → k < n → k + 1 ≤ n
-next_turn h = omega arith
 
 -- a day: where the run stood before it, and what it left, which are the stores, the results, and the arrays with those results at their fronts
 module _ (c : goal.After-day-answer) where
@@ -43,7 +36,7 @@ module _ (c : goal.After-day-answer) where
   results = parts cells c.loop-k.intercepted c.loop-k.outflow c.loop-k.evapotranspired c.loop-k.recharged c.loop-k.rejected
 
   abbrev state' : State
-  state' = state_as c.day-answer.new.soil c.day-answer.new.snow c.day-answer.result.past
+  state' = state_as c.day-answer.new.soil c.day-answer.new.snow c.day-answer.new.past
 
   abbrev part : Results
   part =
@@ -69,7 +62,6 @@ module _ (c : goal.After-day-answer) where
 pub loop-k-init : goal.loop-k-init
 loop-k-init c = let few = c.requires.few in
     record {
-      within = none_before;
       soils = refl;
       snows = refl;
       room = room _ 4096 few;
@@ -106,12 +98,6 @@ slice_bounds-rejected-end c = c.loop-k.invariant.room.rejected
 pub slice_bounds-day-end-in-loop-k-4 : goal.slice_bounds-day-end-in-loop-k-4
 slice_bounds-day-end-in-loop-k-4 c = sym (length-take-le _ _ c.loop-k.invariant.room.rejected)
 
-pub shape_of-soil-in-Last : goal.shape_of-soil-in-Last
-shape_of-soil-in-Last c = c.day-answer.auto.soil ∙ c.loop-k.invariant.soils
-
-pub shape_of-snow-in-Last : goal.shape_of-snow-in-Last
-shape_of-snow-in-Last c = c.day-answer.auto.snow ∙ c.loop-k.invariant.snows
-
 -- the day is one of the run's
 more : (at : goal.After-day_in-day) → at.loop-k.k < day_count at.args.numbers.now
 more at = omega (arith, day_count_lem at.args.numbers.now _ at.requires.placed, at.loop-k-test.true)
@@ -122,25 +108,19 @@ this at = this_day at.args.numbers.now at.args.layout at.requires.placed (day_as
 few : (at : goal.After-day_in-day) → at.loop-k.k < 4681
 few at = omega (arith, count_few at.args.numbers.now at.args.layout at.requires.placed at.requires.coded, at.loop-k-test.true)
 
-pub returns-in-Last : goal.returns-in-Last
-returns-in-Last c =
-    let day = (goal.at.returns-in-Last c).After-day-answer in
-    let at = (goal.at.returns-in-Last c).After-day_in-day in
+pub returns-in-Break : goal.returns-in-Break
+returns-in-Break c =
+    let day = (goal.at.returns-in-Break c).After-day-answer in
+    let at = (goal.at.returns-in-Break c).After-day_in-day in
     let l = c.loop-k in
     told_last c.args.numbers.now (setup day) (first day) (no_results (cells day)) c.args.output.now l.output (state day) (results day)
     l.at l.done l.k c.requires.coded l.invariant.underway
     (day_as c.day_in-day.result) (this at) (more at)
-    (verdict_as c.day-answer.result.verdict) (part day) (totals_as c.day-answer.result.totals) (state' day) _ _ _
-    c.day-answer.ensures c.tell.ensures c.in-Last.is
+    (answered c.day-answer.result) (part day) (totals_told c.day-answer.result) (state' day) _ _ _
+    (told_is _ _ _ _ _ ∙ c.day-answer.ensures) c.tell.ensures c.in-Break.is
 
 pub overflow_add-done : goal.overflow_add-done
 overflow_add-done c = omega (arith, c.loop-k.invariant.underway.counted, few (goal.at.overflow_add-done c).After-day_in-day)
-
-pub overflow_add-k : goal.overflow_add-k
-overflow_add-k c = omega (arith, few (goal.at.overflow_add-k c).After-day_in-day)
-
-pub loop-k-smaller : goal.loop-k-smaller
-loop-k-smaller c = omega (arith, c.loop-k-test.true)
 
 pub loop-k-preserved : goal.loop-k-preserved
 loop-k-preserved c =
@@ -148,7 +128,6 @@ loop-k-preserved c =
     let at = (goal.at.loop-k-preserved c).After-day_in-day in
     let l = c.loop-k in
     record {
-      within = next_turn c.loop-k-test.true;
       soils = c.day-answer.auto.soil ∙ l.invariant.soils;
       snows = c.day-answer.auto.snow ∙ l.invariant.snows;
       room = (held day).0;
@@ -156,8 +135,8 @@ loop-k-preserved c =
           told_more c.args.numbers.now (setup day) (first day) (no_results (cells day)) c.args.output.now l.output (state day) (results day)
           l.at l.done l.k c.requires.coded l.invariant.underway
           (day_as c.day_in-day.result) (this at) (more at)
-          (verdict_as c.day-answer.result.verdict) (part day) _ (totals_as c.day-answer.result.totals) (state' day) _ _ _
-          (held day).1 c.day-answer.ensures c.tell.ensures c.in-More.is;
+          (answered c.day-answer.result) (part day) _ (totals_told c.day-answer.result) (state' day) _ _ _
+          (held day).1 (told_is _ _ _ _ _ ∙ c.day-answer.ensures) c.tell.ensures c.in-Continue.is;
     }
 
 pub shape_of-soil : goal.shape_of-soil
@@ -170,4 +149,4 @@ pub returns : goal.returns
 returns c = let ns = c.args.numbers.now in
     let count = day_count_lem ns _ c.requires.placed in
     all_told ns _ _ _ _ _ _ _ _ _ _ c.requires.coded c.loop-k.invariant.underway _ _
-    (omega (arith, count, c.loop-k-test.false)) (omega (arith, count, c.loop-k.invariant.within)) c.ended.ensures
+    (omega (arith, count, c.loop-k-test.false)) (omega (arith, count, c.loop-k.auto.k-end)) c.ended.ensures

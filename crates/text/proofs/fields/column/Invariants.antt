@@ -5,7 +5,4 @@ use Rattle.text.proofs.fields.column.Given as goal
 
 abbrev pub invariant-loop-i : goal.invariant-loop-i
 invariant-loop-i l =
-    (l.i ≤ l.count) × (l.cells ≡ made_over l.i (λ j. get_or l.numbers (cells_from l.numbers + 4 * j + l.which) 0) (replicate 4096 0))
-
-abbrev pub decreases-loop-i : goal.decreases-loop-i
-decreases-loop-i l = l.count - l.i
+    l.cells ≡ made_over l.i (λ j. get_or l.numbers (cells_from l.numbers + 4 * j + l.which) 0) (replicate 4096 0)

@@ -5,8 +5,4 @@ use Rattle.text.proofs.fields.groups_in.Given as goal
 
 abbrev pub invariant-loop-i : goal.invariant-loop-i
 invariant-loop-i l =
-    (l.i ≤ l.count)
-    × (l.cells ≡ made_over l.i (λ j. group_given (get_or l.numbers (cells_from l.numbers + 4 * j) 0) (get_or l.numbers (cells_from l.numbers + 4 * j + 2) 0)) (replicate 4096 0))
-
-abbrev pub decreases-loop-i : goal.decreases-loop-i
-decreases-loop-i l = l.count - l.i
+    l.cells ≡ made_over l.i (λ j. group_given (get_or l.numbers (cells_from l.numbers + 4 * j) 0) (get_or l.numbers (cells_from l.numbers + 4 * j + 2) 0)) (replicate 4096 0)

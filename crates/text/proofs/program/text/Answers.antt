@@ -4,24 +4,24 @@ use lib.ListN.{length-replicate}
 use Rattle.words.proofs.WritingLaws.{wrote_whole}
 use Rattle.text.proofs.PrintedLaws.{text_refused, text_runs}
 use Rattle.text.proofs.TakingLaws.{ReadyText, ready_text}
-use Rattle.text.proofs.program.text.Goals.{In-Ready}
+use Rattle.text.proofs.program.text.Goals.{In-Ok}
 use Rattle.text.proofs.program.text.Goals as goal
 
 -- what a text that is ready has
-ready : (c : goal.In-Ready) → ReadyText c.args.input.now c.take_up.new.numbers c.in-Ready.layout
-ready c = ready_text _ _ _ _ _ (length-replicate {A = ℕ} 32768 0) c.take_up.ensures c.in-Ready.is
+ready : (c : goal.In-Ok) → ReadyText c.args.input.now c.take_up.new.numbers c.in-Ok.layout
+ready c = ready_text _ _ _ _ _ (length-replicate {A = ℕ} 32768 0) c.take_up.ensures c.in-Ok.is
 
 pub slice_bounds-numbers-end : goal.slice_bounds-numbers-end
-slice_bounds-numbers-end c = (ready (goal.at.slice_bounds-numbers-end c).In-Ready).room
+slice_bounds-numbers-end c = (ready (goal.at.slice_bounds-numbers-end c).In-Ok).room
 
 pub slice_bounds-started-end : goal.slice_bounds-started-end
-slice_bounds-started-end c = (ready (goal.at.slice_bounds-started-end c).In-Ready).counted
+slice_bounds-started-end c = (ready (goal.at.slice_bounds-started-end c).In-Ok).counted
 
 pub started-requires : goal.started-requires
-started-requires c = let r = ready (goal.at.started-requires c).In-Ready in (r.complete, r.coded)
+started-requires c = let r = ready (goal.at.started-requires c).In-Ok in (r.complete, r.coded)
 
-pub returns-in-Refused : goal.returns-in-Refused
-returns-in-Refused c = wrote_whole (text_refused _ _ _ _ c.take_up.ensures _ _ c.in-Refused.is) (omega arith) c.refused.ensures
+pub returns-in-Err : goal.returns-in-Err
+returns-in-Err c = wrote_whole (text_refused _ _ _ _ c.take_up.ensures _ c.in-Err.is) (omega arith) c.refused.ensures
 
-pub returns-in-Ready : goal.returns-in-Ready
-returns-in-Ready c = wrote_whole (text_runs _ _ _ _ c.take_up.ensures _ c.in-Ready.is (ready (goal.at.returns-in-Ready c).In-Ready)) (omega arith) c.started.ensures
+pub returns-in-Ok : goal.returns-in-Ok
+returns-in-Ok c = wrote_whole (text_runs _ _ _ _ c.take_up.ensures _ c.in-Ok.is (ready (goal.at.returns-in-Ok c).In-Ok)) (omega arith) c.started.ensures

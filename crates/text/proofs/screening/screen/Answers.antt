@@ -1,13 +1,13 @@
 -- `screening::screen` meets its contract: each way out is one law of the tests before the run, and after tests 1 and 3 every sum is small.
 use Rattle.std.proofs.Common.{sym, ap, ◌∙◌, ◌+◌, ◌*◌, ◌≤◌, arith}
 use Rattle.paper.specs.Setup.{cells_of}
-use Rattle.text.specs.declared.screening.Screened.TheVariants.{Refused, Ready}
+use Rattle.std.proofs.Common.{Ok, Err}
 use Rattle.text.proofs.ScreenLaws.{few_cells, few_covers, too_few, no_grid, no_covers, bad_count, cut_off, is_ready}
 use Rattle.text.proofs.screening.screen.Goals.{After-index_of}
 use Rattle.text.proofs.screening.screen.Goals as goal
 
 pub returns-then-count-lt2 : goal.returns-then-count-lt2
-returns-then-count-lt2 c = ap (Refused 11) c.units.ensures ∙ too_few c.args.numbers.now c.if-count-lt2.true
+returns-then-count-lt2 c = ap Err c.cut_off.ensures ∙ too_few c.args.numbers.now c.if-count-lt2.true
 
 pub returns-then-not-fits : goal.returns-then-not-fits
 returns-then-not-fits c =
@@ -17,7 +17,7 @@ returns-then-not-fits c =
 pub returns-then-count-lt-FRONT_NUMBERS : goal.returns-then-count-lt-FRONT_NUMBERS
 returns-then-count-lt-FRONT_NUMBERS c =
     let a = c.args in
-    ap (Refused 11) c.units-then-count-lt-FRONT_NUMBERS.ensures ∙ no_covers a.numbers.now c.if-count-lt2.false (sym c.fits.ensures ∙ c.if-not-fits.false) c.if-count-lt-FRONT_NUMBERS.true
+    ap Err c.cut_off-then-count-lt-FRONT_NUMBERS.ensures ∙ no_covers a.numbers.now c.if-count-lt2.false (sym c.fits.ensures ∙ c.if-not-fits.false) c.if-count-lt-FRONT_NUMBERS.true
 
 pub returns-then-not-covers_fit : goal.returns-then-not-covers_fit
 returns-then-not-covers_fit c =
@@ -53,7 +53,7 @@ pub returns-then-not-complete : goal.returns-then-not-complete
 unfolding cells_of
 returns-then-not-complete c =
     let a = c.args in
-    ap (Refused 11) c.units-then-not-complete.ensures
+    ap Err c.cut_off-then-not-complete.ensures
     ∙ cut_off a.numbers.now c.if-count-lt2.false (sym c.fits.ensures ∙ c.if-not-fits.false) c.if-count-lt-FRONT_NUMBERS.false (sym c.covers_fit.ensures ∙ c.if-not-covers_fit.false)
     (rw (c.cells-cells.ensures, c.index_of.ensures) at (sym c.complete.ensures ∙ c.if-not-complete.true))
 
@@ -61,6 +61,6 @@ pub returns : goal.returns
 unfolding cells_of
 returns c =
     let a = c.args in
-    ap Ready c.cells-cells.ensures
+    ap Ok c.cells-cells.ensures
     ∙ is_ready a.numbers.now c.if-count-lt2.false (sym c.fits.ensures ∙ c.if-not-fits.false) c.if-count-lt-FRONT_NUMBERS.false (sym c.covers_fit.ensures ∙ c.if-not-covers_fit.false)
     (rw (c.cells-cells.ensures, c.index_of.ensures) at (sym c.complete.ensures ∙ c.if-not-complete.false))
