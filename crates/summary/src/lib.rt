@@ -3,12 +3,11 @@
 
 mod best;
 mod daily;
+mod figure;
 mod ground;
 mod land;
 mod look;
 mod monthly;
-mod numbers;
-mod putting;
 mod summary;
 mod totals;
 mod warning_lines;
