@@ -1,9 +1,12 @@
 // The days as they are handed over, seven numbers each, with each one's totals, and what is gathered of all of them for a look at the input.
+ghost use Rattle.std.specs.Iterator.{at_most};
+ghost use Rattle.std.specs.Prelude.{length};
+
 use crate::totals::{Part, TOTALS};
 use records::TenthF;
 
 // Serial, day of the year, gross precipitation, minimum, mean and maximum temperature, potential evapotranspiration.
-pub(crate) const DAY_NUMBERS: usize = 7;
+const DAY_NUMBERS: usize = 7;
 
 // A leap year's last day but one, which ends any other year.
 const YEAR_DAYS: u64 = 365;
@@ -23,7 +26,7 @@ const SUMMER_FROM: u64 = 182;
 const SUMMER_TO: u64 = 243;
 
 // A day's numbers, its temperatures lifted.
-#[derive(Clone, Copy, Default)]
+#[derive(Clone, Copy)]
 pub(crate) struct Day {
     pub(crate) serial: u64,
     pub(crate) day_of_year: u64,
@@ -47,9 +50,8 @@ fn lifted(tenths: i32) -> u64 {
 }
 
 impl Day {
-    // Of a day's seven numbers.
-    pub(crate) fn of(numbers: &[i32]) -> Day {
-        let &[
+    fn of(numbers: [i32; DAY_NUMBERS]) -> Day {
+        let [
             serial,
             day_of_year,
             gross,
@@ -57,10 +59,7 @@ impl Day {
             mean,
             maximum,
             potential,
-        ] = numbers
-        else {
-            return Day::default();
-        };
+        ] = numbers;
         Day {
             serial: whole(serial),
             day_of_year: whole(day_of_year),
@@ -82,9 +81,14 @@ impl Day {
         SUMMER_FROM <= self.day_of_year && self.day_of_year <= SUMMER_TO
     }
 
-    fn follows(&self, before: u64) -> bool {
-        let begins_a_year = self.day_of_year == 1 && YEAR_DAYS <= before;
-        self.day_of_year == before.saturating_add(1) || begins_a_year
+    fn follows(&self, before: &Day) -> bool {
+        let is_new_year = self.day_of_year == 1 && YEAR_DAYS <= before.day_of_year;
+        self.day_of_year == before.day_of_year.saturating_add(1) || is_new_year
+    }
+
+    // A year begins where the day of year is not above the day before's.
+    fn begins_year(&self, before: &Day) -> bool {
+        self.day_of_year <= before.day_of_year
     }
 }
 
@@ -127,16 +131,27 @@ impl Gathered {
     }
 }
 
+// Days, one after another, as they are handed over.
+#[derive(Drop)]
+pub(crate) struct Days<'a>(&'a [i32]);
+
+impl Iterator for Days<'_> {
+    type Item = Day;
+
+    ghost remaining = { λ s. at_most (length s.0.now) };
+
+    fn next(&mut self) -> Option<Day> {
+        let (day, rest) = self.0.split_first_chunk::<DAY_NUMBERS>()?;
+        self.0 = rest;
+        Some(Day::of(*day))
+    }
+}
+
 // Some days and the totals of each.
 #[derive(Clone, Copy)]
 pub(crate) struct Period<'a> {
     pub(crate) days: &'a [i32],
     pub(crate) totals: &'a [u64],
-}
-
-// A year begins where the day of year is not above the day before's.
-fn begins_year(before: &[i32], day: &[i32]) -> bool {
-    Day::of(day).day_of_year <= Day::of(before).day_of_year
 }
 
 // Numbers, so many of each day, up to a day and from it on.
@@ -146,25 +161,20 @@ fn parted<T>(numbers: &[T], of_a_day: usize, day: usize) -> (&[T], &[T]) {
 }
 
 impl<'a> Period<'a> {
+    pub(crate) fn days(&self) -> Days<'a> {
+        Days(self.days)
+    }
+
     pub(crate) fn count(&self) -> usize {
         self.days.len() / DAY_NUMBERS
     }
 
-    pub(crate) fn first(&self) -> Option<Day> {
-        self.days.chunks_exact(DAY_NUMBERS).next().map(Day::of)
-    }
-
-    pub(crate) fn last(&self) -> Option<Day> {
-        self.days.chunks_exact(DAY_NUMBERS).last().map(Day::of)
-    }
-
     pub(crate) fn gather(&self) -> Gathered {
         let mut gathered = Gathered::default();
-        let mut before: Option<Day> = None;
-        for numbers in self.days.chunks_exact(DAY_NUMBERS) {
-            let day = Day::of(numbers);
+        let mut before = None;
+        for day in self.days() {
             gathered.add(&day);
-            if before.is_some_and(|before| !day.follows(before.day_of_year)) {
+            if before.is_some_and(|before: Day| !day.follows(&before)) {
                 gathered.add_break(&day);
             }
             before = Some(day);
@@ -174,22 +184,22 @@ impl<'a> Period<'a> {
 
     // How many years begin in it.
     pub(crate) fn years(&self) -> usize {
-        let days = self.days.chunks_exact(DAY_NUMBERS);
-        let later = self.days.chunks_exact(DAY_NUMBERS).skip(1);
-        let begun = days
+        let later = self.days().skip(1);
+        let begun = self
+            .days()
             .zip(later)
-            .filter(|(before, day)| begins_year(before, day))
+            .filter(|(before, day)| day.begins_year(before))
             .count();
         begun.saturating_add(self.count().min(1))
     }
 
     // Its first year and the days after that, where it has days.
     pub(crate) fn split_year(&self) -> Option<(Period<'a>, Period<'a>)> {
-        let days = self.days.chunks_exact(DAY_NUMBERS);
-        let later = self.days.chunks_exact(DAY_NUMBERS).skip(1);
-        let next = days
+        let later = self.days().skip(1);
+        let next = self
+            .days()
             .zip(later)
-            .position(|(before, day)| begins_year(before, day));
+            .position(|(before, day)| day.begins_year(&before));
         let length = next.map_or(self.count(), |day| day.saturating_add(1));
         if length == 0 {
             return None;
@@ -210,9 +220,8 @@ impl<'a> Period<'a> {
             stored,
             ..Part::default()
         };
-        let days = self.days.chunks_exact(DAY_NUMBERS);
-        for (day, totals) in days.zip(self.totals.chunks_exact(TOTALS)) {
-            part.add(totals, Day::of(day).gross);
+        for (day, totals) in self.days().zip(self.totals.chunks_exact(TOTALS)) {
+            part.add(totals, day.gross);
         }
         part
     }

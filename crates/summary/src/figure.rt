@@ -47,10 +47,8 @@ pub(crate) fn nearest(a: u64, b: u64) -> u64 {
         return 0;
     }
     let rest = a % b;
-    if rest < b - rest {
-        return a / b;
-    }
-    (a / b).saturating_add(1)
+    let is_up = b - rest <= rest;
+    (a / b).saturating_add(u64::from(is_up))
 }
 
 // Units over so many cells in hundredths of an inch.
@@ -82,7 +80,7 @@ pub(crate) fn degrees(lifted: u64) -> Figure {
 impl Display for Sign {
     fn fmt<W: fmt::Write>(&self, f: &mut Formatter<W>) -> fmt::Result {
         match self {
-            Sign::Plus => f.write_str(""),
+            Sign::Plus => Ok(()),
             Sign::Minus => f.write_str("-"),
         }
     }

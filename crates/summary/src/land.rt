@@ -30,8 +30,12 @@ impl Cover {
 pub(crate) struct OpenWater([bool; CODES]);
 
 impl OpenWater {
+    fn none() -> OpenWater {
+        OpenWater([false; CODES])
+    }
+
     pub(crate) fn of(covers: &[u32]) -> OpenWater {
-        let mut open = OpenWater([false; CODES]);
+        let mut open = OpenWater::none();
         for entry in covers.chunks_exact(ENTRY_NUMBERS) {
             let cover = Cover::of(entry);
             if let Some(is_open) = open.0.get_mut(cover.code as usize) {
@@ -51,11 +55,11 @@ impl OpenWater {
 pub(crate) struct Tally([u64; CODES]);
 
 impl Tally {
-    pub(crate) fn none() -> Tally {
+    fn none() -> Tally {
         Tally([0; CODES])
     }
 
-    pub(crate) fn add(&mut self, number: u32) {
+    fn add(&mut self, number: u32) {
         if let Some(cells) = self.0.get_mut(number as usize) {
             *cells = cells.saturating_add(1);
         }
@@ -106,15 +110,9 @@ impl Land<'_> {
 
     pub(crate) fn place(&self, cell: usize) -> Place {
         let width = self.grid.width as usize;
-        if width == 0 {
-            return Place {
-                row: 0,
-                column: cell,
-            };
-        }
         Place {
-            row: cell / width,
-            column: cell % width,
+            row: cell.checked_div(width).unwrap_or(0),
+            column: cell.checked_rem(width).unwrap_or(cell),
         }
     }
 
@@ -131,11 +129,12 @@ impl Land<'_> {
 
     // How many cells have each cover, open water among them.
     pub(crate) fn tally_covers(&self) -> Tally {
-        let mut tally = Tally::none();
-        for cell in 0..self.cells() {
-            tally.add(number_of(self.cover, cell));
-        }
-        tally
+        let none = OpenWater::none();
+        let all = Land {
+            open: &none,
+            ..*self
+        };
+        all.tally(self.cover)
     }
 
     pub(crate) fn count(&self, numbers: &[u32], number: u32) -> u64 {
@@ -157,18 +156,18 @@ impl Land<'_> {
     // A direction over a corner counts as over the top or the bottom.
     fn edge_over(&self, cell: usize, direction: u32) -> Option<Edge> {
         let place = self.place(cell);
-        let last_row = place.row.saturating_add(1) == self.grid.height as usize;
-        let last_column = place.column.saturating_add(1) == self.grid.width as usize;
+        let is_last_row = place.row.saturating_add(1) == self.grid.height as usize;
+        let is_last_column = place.column.saturating_add(1) == self.grid.width as usize;
         if is_up(direction) && place.row == 0 {
             return Some(Edge::Top);
         }
-        if is_down(direction) && last_row {
+        if is_down(direction) && is_last_row {
             return Some(Edge::Bottom);
         }
         if is_left(direction) && place.column == 0 {
             return Some(Edge::Left);
         }
-        if is_right(direction) && last_column {
+        if is_right(direction) && is_last_column {
             return Some(Edge::Right);
         }
         None

@@ -1,5 +1,5 @@
 // The months of all years together, by the day of the year, and what is seen in their means.
-use crate::daily::{DAY_NUMBERS, Day, Period};
+use crate::daily::{Day, Period};
 use crate::figure::nearest;
 use std::fmt;
 use std::fmt::{Display, Formatter};
@@ -161,10 +161,7 @@ impl MonthSums {
 
     // The mean, where the month has days enough to look at it.
     fn known_mean(&self) -> Option<u64> {
-        if self.days < MONTH_LEAST_DAYS {
-            return None;
-        }
-        Some(self.mean())
+        (MONTH_LEAST_DAYS <= self.days).then(|| self.mean())
     }
 }
 
@@ -174,8 +171,7 @@ pub(crate) struct Months([MonthSums; MONTHS]);
 impl Months {
     pub(crate) fn gather(period: &Period) -> Months {
         let mut months = Months([MonthSums::NONE; MONTHS]);
-        for numbers in period.days.chunks_exact(DAY_NUMBERS) {
-            let day = Day::of(numbers);
+        for day in period.days() {
             months.0[Month::of(day.day_of_year) as usize].add(&day);
         }
         months
@@ -187,10 +183,10 @@ impl Months {
 
     // The mean of the warmest of June, July and August.
     pub(crate) fn summer(&self) -> Option<u64> {
-        let june = self.of(Month::June).known_mean();
-        let july = self.of(Month::July).known_mean();
-        let august = self.of(Month::August).known_mean();
-        june.max(july).max(august)
+        [Month::June, Month::July, Month::August]
+            .iter()
+            .filter_map(|month| self.of(*month).known_mean())
+            .max()
     }
 
     // The mean of the coldest of December, January and February.

@@ -28,7 +28,7 @@ struct Input<'a> {
 }
 
 fn put_period(page: &mut Page, period: &Period) -> fmt::Result {
-    let (Some(first), Some(last)) = (period.first(), period.last()) else {
+    let (Some(first), Some(last)) = (period.days().next(), period.days().last()) else {
         return page.write_str("Period      no days\n");
     };
     let days = period.count();

@@ -97,6 +97,18 @@ enum Measure {
     PercentOfPrecipitation,
 }
 
+impl Measure {
+    fn figures(self, year: Part) -> [Figure; TOTALS] {
+        match self {
+            Measure::InchesOver(area) => {
+                let own = year.over(area);
+                own.seven().map(|units| inches_over(units, area.cells))
+            }
+            Measure::PercentOfPrecipitation => year.seven().map(|units| share(units, year.gross)),
+        }
+    }
+}
+
 // The period's totals, what is stored before its days, and the areas that both are told over.
 #[derive(Clone, Copy)]
 pub(crate) struct Account {
@@ -210,19 +222,10 @@ impl Account {
 }
 
 fn put_year(page: &mut Page, year: Period, measure: Measure) -> fmt::Result {
-    let serial = year.first().unwrap_or_default().serial;
+    let serial = year.days().next().map_or(0, |first| first.serial);
     let days = year.count();
-    let part = year.sum(0);
     write!(page, "{serial:>10}{days:>6}")?;
-    let own = match measure {
-        Measure::InchesOver(area) => part.over(area),
-        Measure::PercentOfPrecipitation => part,
-    };
-    for units in own.seven() {
-        let figure = match measure {
-            Measure::InchesOver(area) => inches_over(units, area.cells),
-            Measure::PercentOfPrecipitation => share(units, part.gross),
-        };
+    for figure in measure.figures(year.sum(0)) {
         write!(page, "{figure:>10}")?;
     }
     writeln!(page)

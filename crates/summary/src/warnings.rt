@@ -229,10 +229,7 @@ impl Seen {
 
     // A warning's mark, where it is given.
     pub(crate) fn mark(&self, warning: Warning) -> Mark {
-        if !self.warns(warning) {
-            return Mark(None);
-        }
-        Mark(Some(warning))
+        Mark(self.warns(warning).then_some(warning))
     }
 }
 
