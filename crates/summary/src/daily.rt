@@ -4,6 +4,7 @@ ghost use Rattle.std.specs.Prelude.{length};
 
 use crate::totals::{Part, TOTALS};
 use records::TenthF;
+use std::iter::{Skip, Zip};
 
 // Serial, day of the year, gross precipitation, minimum, mean and maximum temperature, potential evapotranspiration.
 const DAY_NUMBERS: usize = 7;
@@ -93,7 +94,7 @@ impl Day {
 }
 
 // Depths in units on one cell.
-#[derive(Clone, Copy, Default)]
+#[derive(Clone, Copy)]
 pub(crate) struct Gathered {
     pub(crate) days: u64,
     pub(crate) gross: u64,
@@ -106,29 +107,6 @@ pub(crate) struct Gathered {
     // Days whose day of year does not follow, and the serial of the first.
     pub(crate) breaks: u64,
     pub(crate) first_break: Option<u64>,
-}
-
-impl Gathered {
-    fn add(&mut self, day: &Day) {
-        let snows = day.snows();
-        self.days = self.days.saturating_add(1);
-        self.gross = self.gross.saturating_add(day.gross);
-        self.potential = self.potential.saturating_add(day.potential);
-        self.wettest = self.wettest.max(day.gross);
-        self.wet_days = self.wet_days.saturating_add(u64::from(0 < day.gross));
-        self.snow_days = self.snow_days.saturating_add(u64::from(snows));
-        self.summer_snow_days = self
-            .summer_snow_days
-            .saturating_add(u64::from(snows && day.is_summer()));
-        self.thaw_days = self
-            .thaw_days
-            .saturating_add(u64::from(FREEZING < day.maximum));
-    }
-
-    fn add_break(&mut self, day: &Day) {
-        self.breaks = self.breaks.saturating_add(1);
-        self.first_break = self.first_break.or(Some(day.serial));
-    }
 }
 
 // Days, one after another, as they are handed over.
@@ -169,25 +147,45 @@ impl<'a> Period<'a> {
         self.days.len() / DAY_NUMBERS
     }
 
+    // Each day but the last, with the day after it.
+    fn pairs(&self) -> Zip<Days<'a>, Skip<Days<'a>>> {
+        self.days().zip(self.days().skip(1))
+    }
+
+    fn count_days<F: Fn(&Day) -> bool>(&self, is_counted: F) -> u64
+        requires { F.IsAlwaysCallable is_counted }
+    {
+        self.days().filter(|day| is_counted(day)).count() as u64
+    }
+
+    fn sum_days<F: Fn(&Day) -> u64>(&self, depth: F) -> u64
+        requires { F.IsAlwaysCallable depth }
+    {
+        self.days()
+            .fold(0, |sum: u64, day| sum.saturating_add(depth(&day)))
+    }
+
     pub(crate) fn gather(&self) -> Gathered {
-        let mut gathered = Gathered::default();
-        let mut before = None;
-        for day in self.days() {
-            gathered.add(&day);
-            if before.is_some_and(|before: Day| !day.follows(&before)) {
-                gathered.add_break(&day);
-            }
-            before = Some(day);
+        let breaks = self.pairs().filter(|(before, day)| !day.follows(before));
+        let first_break = self.pairs().find(|(before, day)| !day.follows(before));
+        Gathered {
+            days: self.count() as u64,
+            gross: self.sum_days(|day| day.gross),
+            potential: self.sum_days(|day| day.potential),
+            wettest: self.days().map(|day| day.gross).max().unwrap_or(0),
+            wet_days: self.count_days(|day| 0 < day.gross),
+            snow_days: self.count_days(|day| day.snows()),
+            summer_snow_days: self.count_days(|day| day.snows() && day.is_summer()),
+            thaw_days: self.count_days(|day| FREEZING < day.maximum),
+            breaks: breaks.count() as u64,
+            first_break: first_break.map(|(_, day)| day.serial),
         }
-        gathered
     }
 
     // How many years begin in it.
     pub(crate) fn years(&self) -> usize {
-        let later = self.days().skip(1);
         let begun = self
-            .days()
-            .zip(later)
+            .pairs()
             .filter(|(before, day)| day.begins_year(before))
             .count();
         begun.saturating_add(self.count().min(1))
@@ -195,10 +193,8 @@ impl<'a> Period<'a> {
 
     // Its first year and the days after that, where it has days.
     pub(crate) fn split_year(&self) -> Option<(Period<'a>, Period<'a>)> {
-        let later = self.days().skip(1);
         let next = self
-            .days()
-            .zip(later)
+            .pairs()
             .position(|(before, day)| day.begins_year(&before));
         let length = next.map_or(self.count(), |day| day.saturating_add(1));
         if length == 0 {

@@ -58,7 +58,7 @@ fn put_others(page: &mut Page, direction: &[u32], land: &Land, depressions: u64)
         let Some(other) = land.next_other(direction, past) else {
             break;
         };
-        let found = land.count(direction, other);
+        let found = land.cells_with(direction, other);
         write!(page, "{lead}{other} ({found})")?;
         left = left.saturating_sub(found);
         lead = ", ";

@@ -137,7 +137,7 @@ impl Land<'_> {
         all.tally(self.cover)
     }
 
-    pub(crate) fn count(&self, numbers: &[u32], number: u32) -> u64 {
+    pub(crate) fn cells_with(&self, numbers: &[u32], number: u32) -> u64 {
         let found = (0..self.cells())
             .filter(|cell| self.has(*cell) && number_of(numbers, *cell) == number)
             .count();
