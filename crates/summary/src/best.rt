@@ -48,20 +48,17 @@ impl Ranking {
         }
     }
 
-    fn enter(&mut self, coming: Entry) {
-        let mut coming = coming;
+    // An entry takes the place of the first that it stands before, which then takes that of the next.
+    fn enter(&mut self, entry: Entry) {
+        let mut coming = entry;
         for place in self.entries.iter_mut() {
-            match *place {
-                None => {
-                    *place = Some(coming);
-                    return;
-                }
-                Some(standing) => {
-                    if self.order.puts_before(coming, standing) {
-                        *place = Some(coming);
-                        coming = standing;
-                    }
-                }
+            let Some(standing) = *place else {
+                *place = Some(coming);
+                return;
+            };
+            if self.order.puts_before(coming, standing) {
+                *place = Some(coming);
+                coming = standing;
             }
         }
     }

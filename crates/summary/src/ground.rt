@@ -1,8 +1,8 @@
 // The look at the input, its cells: where they drain, and which covers and soil groups they have.
-use crate::land::{Cover, ENTRY_NUMBERS, Land, Tally};
+use crate::land::{Cover, Covers, Land, Tally};
 use crate::warnings::{Seen, Warning};
 use std::fmt;
-use std::fmt::Write;
+use std::fmt::{Display, Formatter, Write};
 use words::Page;
 
 // Other numbers than the eight directions that are listed, the lowest first.
@@ -97,71 +97,70 @@ pub(crate) fn put_directions(
     put_edges(page, seen)
 }
 
-// A list of covers, which goes on in a new line where the last is full.
-#[derive(Drop)]
-struct Listing {
+// A cover that cells have, with their number.
+#[derive(Clone, Copy)]
+struct Used {
+    cover: Cover,
+    cells: u64,
+}
+
+impl Display for Used {
+    fn fmt<W: fmt::Write>(&self, f: &mut Formatter<W>) -> fmt::Result {
+        let code = self.cover.code;
+        let sign = if self.cover.is_open_water { '*' } else { ':' };
+        let cells = self.cells;
+        write!(f, "{code:>7}{sign}{cells:>6}")
+    }
+}
+
+// A cover that no cell has.
+#[derive(Clone, Copy)]
+struct Unused(Cover);
+
+impl Display for Unused {
+    fn fmt<W: fmt::Write>(&self, f: &mut Formatter<W>) -> fmt::Result {
+        let code = self.0.code;
+        write!(f, "{code:>7}")
+    }
+}
+
+// What is listed of the table's covers, so much on a line.
+fn put_list<D: Display + Drop, F: Fn(Cover) -> Option<D>>(
+    page: &mut Page,
+    covers: Covers,
     on_a_line: u64,
-    listed: u64,
-}
-
-impl Listing {
-    fn new(on_a_line: u64) -> Listing {
-        Listing {
-            on_a_line,
-            listed: 0,
+    listed: F,
+) -> fmt::Result
+    requires { F.IsAlwaysCallable listed }
+{
+    let mut count = 0u64;
+    for cover in covers {
+        if let Some(item) = listed(cover) {
+            if 0 < count && count.is_multiple_of(on_a_line) {
+                writeln!(page)?;
+            }
+            write!(page, "{item}")?;
+            count = count.saturating_add(1);
         }
     }
-
-    fn next(&mut self, page: &mut Page) -> fmt::Result {
-        if 0 < self.listed && self.listed.is_multiple_of(self.on_a_line) {
-            writeln!(page)?;
-        }
-        self.listed = self.listed.saturating_add(1);
-        Ok(())
+    if count == 0 {
+        return page.write_str("   none\n");
     }
-
-    fn end(&self, page: &mut Page) -> fmt::Result {
-        if self.listed == 0 {
-            return page.write_str("   none\n");
-        }
-        writeln!(page)
-    }
-}
-
-fn put_used(page: &mut Page, covers: &[u32], tally: &Tally) -> fmt::Result {
-    let mut listing = Listing::new(USED_ON_A_LINE);
-    for entry in covers.chunks_exact(ENTRY_NUMBERS) {
-        let cover = Cover::of(entry);
-        let code = cover.code;
-        let cells = tally.of(code);
-        if 0 < cells {
-            let sign = if cover.is_open_water { "*" } else { ":" };
-            listing.next(page)?;
-            write!(page, "{code:>7}{sign}{cells:>6}")?;
-        }
-    }
-    listing.end(page)
-}
-
-fn put_unused(page: &mut Page, covers: &[u32], tally: &Tally) -> fmt::Result {
-    let mut listing = Listing::new(UNUSED_ON_A_LINE);
-    for entry in covers.chunks_exact(ENTRY_NUMBERS) {
-        let code = Cover::of(entry).code;
-        if tally.of(code) == 0 {
-            listing.next(page)?;
-            write!(page, "{code:>7}")?;
-        }
-    }
-    listing.end(page)
+    writeln!(page)
 }
 
 // Of all cells, open water among them.
 pub(crate) fn put_covers(page: &mut Page, covers: &[u32], land: &Land) -> fmt::Result {
     let tally = land.tally_covers();
     page.write_str("\nCovers (cover.asc), code and cells; * is open water\n")?;
-    put_used(page, covers, &tally)?;
+    put_list(page, Covers(covers), USED_ON_A_LINE, |cover| {
+        let cells = tally.of(cover.code);
+        (0 < cells).then_some(Used { cover, cells })
+    })?;
     page.write_str("  covers of the table (covers.txt) that no cell has:\n")?;
-    put_unused(page, covers, &tally)
+    put_list(page, Covers(covers), UNUSED_ON_A_LINE, |cover| {
+        (tally.of(cover.code) == 0).then_some(Unused(cover))
+    })
 }
 
 pub(crate) fn put_groups(page: &mut Page, group: &[u32], land: &Land) -> fmt::Result {

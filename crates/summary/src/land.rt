@@ -1,11 +1,14 @@
 // The cells: which are land, where they drain, and how many have a number.
+ghost use Rattle.std.specs.Iterator.{at_most};
+ghost use Rattle.std.specs.Prelude.{length};
+
 use records::{Grid, MOST_CELLS};
 
 // One more than the largest code of a cover.
 const CODES: usize = 256;
 
 // Numbers in an entry of the cover table: the first is the code, the second is 1 for open water.
-pub(crate) const ENTRY_NUMBERS: usize = 16;
+const ENTRY_NUMBERS: usize = 16;
 
 // What a table entry says of a cover, as far as it is told here.
 #[derive(Clone, Copy)]
@@ -14,14 +17,22 @@ pub(crate) struct Cover {
     pub(crate) is_open_water: bool,
 }
 
-impl Cover {
-    pub(crate) fn of(entry: &[u32]) -> Cover {
-        let code = entry.first().copied().unwrap_or(0);
-        let open = entry.get(1).copied().unwrap_or(0);
-        Cover {
-            code,
-            is_open_water: open == 1,
-        }
+// The covers of the table, one after another.
+#[derive(Drop)]
+pub(crate) struct Covers<'a>(pub(crate) &'a [u32]);
+
+impl Iterator for Covers<'_> {
+    type Item = Cover;
+
+    ghost remaining = { λ s. at_most (length s.0.now) };
+
+    fn next(&mut self) -> Option<Cover> {
+        let (entry, rest) = self.0.split_first_chunk::<ENTRY_NUMBERS>()?;
+        self.0 = rest;
+        Some(Cover {
+            code: entry[0],
+            is_open_water: entry[1] == 1,
+        })
     }
 }
 
@@ -36,8 +47,7 @@ impl OpenWater {
 
     pub(crate) fn of(covers: &[u32]) -> OpenWater {
         let mut open = OpenWater::none();
-        for entry in covers.chunks_exact(ENTRY_NUMBERS) {
-            let cover = Cover::of(entry);
+        for cover in Covers(covers) {
             if let Some(is_open) = open.0.get_mut(cover.code as usize) {
                 *is_open = cover.is_open_water;
             }

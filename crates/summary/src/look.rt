@@ -5,36 +5,35 @@ use crate::figure::{Figure, degrees, nearest};
 use crate::monthly::{Month, MonthSums, Months, YEAR};
 use crate::warnings::{Mark, Seen, Warning};
 use std::fmt;
-use std::fmt::Write;
+use std::fmt::{InlineText, Write};
 use words::{Inches, Page};
+
+const NAME_WIDTH: usize = 44;
 
 // A name, its figure, words on it, and the mark of its warning.
 fn put_line(page: &mut Page, name: &str, figure: Figure, words: &str, mark: Mark) -> fmt::Result {
-    writeln!(page, "  {name:<44}{figure:>10}{words}{mark}")
+    writeln!(page, "  {name:<NAME_WIDTH$}{figure:>10}{words}{mark}")
 }
 
 fn put_waters(page: &mut Page, seen: &Seen) -> fmt::Result {
     let days = &seen.days;
-    let fell = if days.is_year() {
-        "precipitation a year"
+    let span = if days.is_year() {
+        "a year"
     } else {
-        "precipitation of all days"
+        "of all days"
     };
-    let asked = if days.is_year() {
-        "potential evapotranspiration a year"
-    } else {
-        "potential evapotranspiration of all days"
-    };
+    let fell = InlineText::<NAME_WIDTH>::of(format_args!("precipitation {span}"));
+    let asked = InlineText::<NAME_WIDTH>::of(format_args!("potential evapotranspiration {span}"));
     put_line(
         page,
-        fell,
+        fell.as_str(),
         Figure::hundredths(days.precipitation()),
         " inches; the sources: 21.08 to 43.34 a year",
         seen.mark(Warning::Precipitation),
     )?;
     put_line(
         page,
-        asked,
+        asked.as_str(),
         Figure::hundredths(days.demand()),
         " inches; the sources: 23.00 to 28.44 a year",
         seen.mark(Warning::Potential),
