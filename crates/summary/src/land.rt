@@ -36,7 +36,7 @@ impl Iterator for Covers<'_> {
     }
 }
 
-// Which codes of covers are open water.
+// Which codes of covers are open water: a fixed table, since there is no heap.
 #[derive(Drop)]
 pub(crate) struct OpenWater([bool; CODES]);
 
@@ -60,7 +60,7 @@ impl OpenWater {
     }
 }
 
-// How many cells have each number below 256.
+// How many cells have each number below 256: a fixed table, since there is no heap.
 #[derive(Drop)]
 pub(crate) struct Tally([u64; CODES]);
 
