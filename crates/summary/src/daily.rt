@@ -1,5 +1,10 @@
-// The days as they are handed over, seven numbers each, and what is gathered of all of them for a look at the input.
-use crate::numbers::{count, lifted, minus, one_if, plus, times, whole};
+// The days as they are handed over, seven numbers each, with each one's totals, and what is gathered of all of them for a look at the input.
+ghost use Rattle.std.specs.Iterator.{at_most};
+ghost use Rattle.std.specs.Prelude.{length};
+
+use crate::totals::{Part, TOTALS};
+use records::TenthF;
+use std::iter::{Skip, Zip};
 
 // Serial, day of the year, gross precipitation, minimum, mean and maximum temperature, potential evapotranspiration.
 const DAY_NUMBERS: usize = 7;
@@ -12,6 +17,9 @@ const YEAR_DAYS: u64 = 365;
 const SNOW_RULE: u64 = 3960;
 
 const FREEZING: u64 = 1320;
+
+// So far below freezing is the lowest temperature that document 01 allows, -100 F.
+const LOWEST_BELOW_FREEZING: u64 = 1320;
 
 // July and August.
 const SUMMER_FROM: u64 = 182;
@@ -30,6 +38,61 @@ pub(crate) struct Day {
     pub(crate) potential: u64,
 }
 
+// A whole number that is not below zero; 0 for one that is.
+fn whole(n: i32) -> u64 {
+    u64::try_from(n).unwrap_or(0)
+}
+
+// A temperature in tenths above -100 F, so that none is below zero.
+fn lifted(tenths: i32) -> u64 {
+    let temperature = TenthF(tenths);
+    let below = LOWEST_BELOW_FREEZING.saturating_sub(temperature.below_freezing());
+    below.saturating_add(temperature.above_freezing())
+}
+
+impl Day {
+    fn of(numbers: [i32; DAY_NUMBERS]) -> Day {
+        let [
+            serial,
+            day_of_year,
+            gross,
+            minimum,
+            mean,
+            maximum,
+            potential,
+        ] = numbers;
+        Day {
+            serial: whole(serial),
+            day_of_year: whole(day_of_year),
+            gross: whole(gross),
+            minimum: lifted(minimum),
+            mean: lifted(mean),
+            maximum: lifted(maximum),
+            potential: whole(potential),
+        }
+    }
+
+    // Does something fall, and as snow?
+    pub(crate) fn snows(&self) -> bool {
+        let cold = self.mean.saturating_mul(3).saturating_add(self.minimum);
+        0 < self.gross && cold <= self.maximum.saturating_add(SNOW_RULE)
+    }
+
+    fn is_summer(&self) -> bool {
+        SUMMER_FROM <= self.day_of_year && self.day_of_year <= SUMMER_TO
+    }
+
+    fn follows(&self, before: &Day) -> bool {
+        let is_new_year = self.day_of_year == 1 && YEAR_DAYS <= before.day_of_year;
+        self.day_of_year == before.day_of_year.saturating_add(1) || is_new_year
+    }
+
+    // A year begins where the day of year is not above the day before's.
+    fn begins_year(&self, before: &Day) -> bool {
+        self.day_of_year <= before.day_of_year
+    }
+}
+
 // Depths in units on one cell.
 #[derive(Clone, Copy)]
 pub(crate) struct Gathered {
@@ -43,143 +106,119 @@ pub(crate) struct Gathered {
     pub(crate) thaw_days: u64,
     // Days whose day of year does not follow, and the serial of the first.
     pub(crate) breaks: u64,
-    pub(crate) first_break: u64,
+    pub(crate) first_break: Option<u64>,
 }
 
-pub(crate) fn day_count(days: &[i32]) -> usize {
-    days.len() / DAY_NUMBERS
+// Days, one after another, as they are handed over.
+#[derive(Drop)]
+pub(crate) struct Days<'a>(&'a [i32]);
+
+impl Iterator for Days<'_> {
+    type Item = Day;
+
+    ghost remaining = { λ s. at_most (length s.0.now) };
+
+    fn next(&mut self) -> Option<Day> {
+        let (day, rest) = self.0.split_first_chunk::<DAY_NUMBERS>()?;
+        self.0 = rest;
+        Some(Day::of(*day))
+    }
 }
 
-// A day; zeros past the last.
-pub(crate) fn day_at(days: &[i32], i: usize) -> Day {
-    if days.len() / DAY_NUMBERS <= i {
-        return Day {
-            serial: 0,
-            day_of_year: 0,
-            gross: 0,
-            minimum: 0,
-            mean: 0,
-            maximum: 0,
-            potential: 0,
+// Some days and the totals of each.
+#[derive(Clone, Copy)]
+pub(crate) struct Period<'a> {
+    pub(crate) days: &'a [i32],
+    pub(crate) totals: &'a [u64],
+}
+
+// Numbers, so many of each day, up to a day and from it on.
+fn parted<T>(numbers: &[T], of_a_day: usize, day: usize) -> (&[T], &[T]) {
+    let place = day.saturating_mul(of_a_day).min(numbers.len());
+    numbers.split_at(place)
+}
+
+impl<'a> Period<'a> {
+    pub(crate) fn days(&self) -> Days<'a> {
+        Days(self.days)
+    }
+
+    pub(crate) fn count(&self) -> usize {
+        self.days.len() / DAY_NUMBERS
+    }
+
+    // Each day but the last, with the day after it.
+    fn pairs(&self) -> Zip<Days<'a>, Skip<Days<'a>>> {
+        self.days().zip(self.days().skip(1))
+    }
+
+    fn count_days<F: Fn(&Day) -> bool>(&self, is_counted: F) -> u64
+        requires { F.IsAlwaysCallable is_counted }
+    {
+        self.days().filter(|day| is_counted(day)).count() as u64
+    }
+
+    fn sum_days<F: Fn(&Day) -> u64>(&self, depth: F) -> u64
+        requires { F.IsAlwaysCallable depth }
+    {
+        self.days()
+            .fold(0, |sum: u64, day| sum.saturating_add(depth(&day)))
+    }
+
+    pub(crate) fn gather(&self) -> Gathered {
+        let breaks = self.pairs().filter(|(before, day)| !day.follows(before));
+        let first_break = self.pairs().find(|(before, day)| !day.follows(before));
+        Gathered {
+            days: self.count() as u64,
+            gross: self.sum_days(|day| day.gross),
+            potential: self.sum_days(|day| day.potential),
+            wettest: self.days().map(|day| day.gross).max().unwrap_or(0),
+            wet_days: self.count_days(|day| 0 < day.gross),
+            snow_days: self.count_days(|day| day.snows()),
+            summer_snow_days: self.count_days(|day| day.snows() && day.is_summer()),
+            thaw_days: self.count_days(|day| FREEZING < day.maximum),
+            breaks: breaks.count() as u64,
+            first_break: first_break.map(|(_, day)| day.serial),
+        }
+    }
+
+    // How many years begin in it.
+    pub(crate) fn years(&self) -> usize {
+        let begun = self
+            .pairs()
+            .filter(|(before, day)| day.begins_year(before))
+            .count();
+        begun.saturating_add(self.count().min(1))
+    }
+
+    // Its first year and the days after that, where it has days.
+    pub(crate) fn split_year(&self) -> Option<(Period<'a>, Period<'a>)> {
+        let next = self
+            .pairs()
+            .position(|(before, day)| day.begins_year(&before));
+        let length = next.map_or(self.count(), |day| day.saturating_add(1));
+        if length == 0 {
+            return None;
+        }
+        let (days, later_days) = parted(self.days, DAY_NUMBERS, length);
+        let (totals, later_totals) = parted(self.totals, TOTALS, length);
+        let year = Period { days, totals };
+        let rest = Period {
+            days: later_days,
+            totals: later_totals,
         };
+        Some((year, rest))
     }
-    let at = DAY_NUMBERS * i;
-    Day {
-        serial: whole(days[at]),
-        day_of_year: whole(days[at + 1]),
-        gross: whole(days[at + 2]),
-        minimum: lifted(days[at + 3]),
-        mean: lifted(days[at + 4]),
-        maximum: lifted(days[at + 5]),
-        potential: whole(days[at + 6]),
-    }
-}
 
-// Is the day one of snow: does something fall, and as snow?
-pub(crate) fn snows(day: Day) -> bool {
-    let cold = plus(times(3, day.mean), day.minimum) <= plus(SNOW_RULE, day.maximum);
-    (0 < day.gross) & cold
-}
-
-fn follows(day_of_year: u64, before: u64) -> bool {
-    (day_of_year == plus(before, 1)) | ((day_of_year == 1) & (YEAR_DAYS <= before))
-}
-
-fn larger(a: u64, b: u64) -> u64 {
-    if a < b { b } else { a }
-}
-
-fn with_day(gathered: Gathered, day: Day) -> Gathered {
-    let snow = snows(day);
-    let summer = (SUMMER_FROM <= day.day_of_year) & (day.day_of_year <= SUMMER_TO);
-    Gathered {
-        days: plus(gathered.days, 1),
-        gross: plus(gathered.gross, day.gross),
-        potential: plus(gathered.potential, day.potential),
-        wettest: larger(gathered.wettest, day.gross),
-        wet_days: plus(gathered.wet_days, one_if(0 < day.gross)),
-        snow_days: plus(gathered.snow_days, one_if(snow)),
-        summer_snow_days: plus(gathered.summer_snow_days, one_if(snow & summer)),
-        thaw_days: plus(gathered.thaw_days, one_if(FREEZING < day.maximum)),
-        breaks: gathered.breaks,
-        first_break: gathered.first_break,
-    }
-}
-
-// The first day of all follows none.
-fn with_break(gathered: Gathered, before: u64, day: Day) -> Gathered {
-    if (gathered.days <= 1) | follows(day.day_of_year, before) {
-        return gathered;
-    }
-    let mut next = gathered;
-    if gathered.breaks == 0 {
-        next.first_break = day.serial;
-    }
-    next.breaks = plus(gathered.breaks, 1);
-    next
-}
-
-pub(crate) fn gather_days(days: &[i32]) -> Gathered {
-    let n = day_count(days);
-    let mut gathered = Gathered {
-        days: 0,
-        gross: 0,
-        potential: 0,
-        wettest: 0,
-        wet_days: 0,
-        snow_days: 0,
-        summer_snow_days: 0,
-        thaw_days: 0,
-        breaks: 0,
-        first_break: 0,
-    };
-    let mut before = 0;
-    let mut i = 0;
-    while i < n {
-        let day = day_at(days, i);
-        gathered = with_day(gathered, day);
-        gathered = with_break(gathered, before, day);
-        before = day.day_of_year;
-        i += 1;
-    }
-    gathered
-}
-
-// Is the day of year above the day before's? Past the last day it is not.
-fn rises(days: &[i32], i: usize) -> bool {
-    if i == 0 {
-        return false;
-    }
-    day_at(days, i - 1).day_of_year < day_at(days, i).day_of_year
-}
-
-// The day past the year that begins with a day: the next year begins where the day of year is not above the day before's.
-pub(crate) fn year_past(days: &[i32], first: usize) -> usize {
-    let n = day_count(days);
-    let mut day = first;
-    while day < n {
-        day += 1;
-        if !rises(days, day) {
-            return day;
+    // The sums of its totals; `stored` is what is stored before them.
+    pub(crate) fn sum(&self, stored: u64) -> Part {
+        let mut part = Part {
+            stored,
+            ..Part::default()
+        };
+        for (day, totals) in self.days().zip(self.totals.chunks_exact(TOTALS)) {
+            part.add(totals, day.gross);
         }
+        part
     }
-    day
-}
-
-// How many years begin from a day on.
-pub(crate) fn years_from(days: &[i32], first: usize) -> u64 {
-    let n = day_count(days);
-    let mut years = 0;
-    let mut i = first;
-    while i < n {
-        if (i == first) | !rises(days, i) {
-            years = plus(years, 1);
-        }
-        i += 1;
-    }
-    years
-}
-
-pub(crate) fn day_span(first: usize, past: usize) -> u64 {
-    minus(count(past), count(first))
 }

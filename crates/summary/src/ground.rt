@@ -1,13 +1,9 @@
 // The look at the input, its cells: where they drain, and which covers and soil groups they have.
-use crate::land::{
-    CODES, Drained, ENTRY_NUMBERS, count_on_land, is_direction, next_other, of_number, tally,
-};
-use crate::look::put_mark;
-use crate::numbers::{minus, one_if, plus};
-use crate::putting::{Figure, put_count_in, put_left, put_right};
-use crate::warnings::Warned;
-use records::wide;
-use words::{put_byte, put_bytes};
+use crate::land::{Cover, Covers, Land, Tally};
+use crate::warnings::{Seen, Warning};
+use std::fmt;
+use std::fmt::{Display, Formatter, Write};
+use words::Page;
 
 // Other numbers than the eight directions that are listed, the lowest first.
 const LISTED_OTHERS: usize = 5;
@@ -17,291 +13,162 @@ const USED_ON_A_LINE: u64 = 6;
 
 const UNUSED_ON_A_LINE: u64 = 12;
 
-const LAST_NUMBER: u32 = 4294967295;
+// The eight directions, two on a line.
+const DIRECTIONS: [[(u32, &str); 2]; 4] = [
+    [(1, "right"), (16, "left")],
+    [(2, "lower right"), (32, "upper left")],
+    [(4, "down"), (64, "up")],
+    [(8, "lower left"), (128, "upper right")],
+];
 
-fn put_direction(
-    text: &mut [u8],
-    at: usize,
-    tallied: &[u64; CODES],
-    code: u32,
-    name: &[u8],
-) -> usize {
-    let number = put_right(text, at, 6, Figure::Whole(wide(code)));
-    let blank = put_bytes(text, number, b" ");
-    let named = put_left(text, blank, 12, name);
-    put_right(text, named, 6, Figure::Whole(of_number(tallied, code)))
+fn put_direction(page: &mut Page, tally: &Tally, code: u32, name: &str) -> fmt::Result {
+    let cells = tally.of(code);
+    write!(page, "{code:>6} {name:<12}{cells:>6}")
 }
 
-// A line of two directions.
-fn put_pair(
-    text: &mut [u8],
-    at: usize,
-    tallied: &[u64; CODES],
-    code: u32,
-    name: &[u8],
-    beside: u32,
-    second: &[u8],
-) -> usize {
-    let first = put_direction(text, at, tallied, code, name);
-    let blank = put_bytes(text, first, b"  ");
-    let both = put_direction(text, blank, tallied, beside, second);
-    put_bytes(text, both, b"\n")
-}
-
-fn put_eight(text: &mut [u8], at: usize, tallied: &[u64; CODES]) -> usize {
-    let a = put_pair(text, at, tallied, 1, b"right", 16, b"left");
-    let b = put_pair(text, a, tallied, 2, b"lower right", 32, b"upper left");
-    let c = put_pair(text, b, tallied, 4, b"down", 64, b"up");
-    put_pair(text, c, tallied, 8, b"lower left", 128, b"upper right")
-}
-
-fn put_depressions(text: &mut [u8], at: usize, cells: Drained, warned: Warned) -> usize {
-    let counted = put_count_in(
-        text,
-        at,
-        b"  closed depressions, which have any other number: ",
-        cells.depressions,
-        b"",
-    );
-    let codes = put_mark(text, counted, warned.counted, b"W11");
-    let many = put_mark(text, codes, warned.depressions, b"W13");
-    put_bytes(text, many, b"\n")
-}
-
-// One of the other numbers, with its cells.
-fn put_other(text: &mut [u8], at: usize, is_first: bool, other: u32, found: u64) -> usize {
-    if found == 0 {
-        return at;
+fn put_eight(page: &mut Page, tally: &Tally) -> fmt::Result {
+    for [(code, name), (beside, second)] in DIRECTIONS {
+        put_direction(page, tally, code, name)?;
+        page.write_str("  ")?;
+        put_direction(page, tally, beside, second)?;
+        writeln!(page)?;
     }
-    if is_first {
-        let first = put_count_in(text, at, b"         these are ", wide(other), b" (");
-        return put_count_in(text, first, b"", found, b")");
-    }
-    let next = put_count_in(text, at, b", ", wide(other), b" (");
-    put_count_in(text, next, b"", found, b")")
+    Ok(())
 }
 
-fn put_rest(text: &mut [u8], at: usize, depressions: u64, left: u64) -> usize {
-    if depressions == 0 {
-        return at;
-    }
-    if left == 0 {
-        return put_bytes(text, at, b"\n");
-    }
-    put_count_in(text, at, b", and others (", left, b")\n")
-}
-
-// How many cells of land have a number, where it is none of the eight.
-fn others_with(
-    direction: &[u32],
-    cover: &[u32],
-    open: &[u64; CODES],
-    cells: usize,
-    number: u32,
-) -> u64 {
-    if is_direction(number) {
-        return 0;
-    }
-    count_on_land(direction, cover, open, cells, number)
-}
-
-// The cells are only gone through while some of their numbers are left to find.
-fn while_left(cells: usize, left: u64) -> usize {
-    if left == 0 { 0 } else { cells }
-}
-
-fn number_after(number: u32) -> u32 {
-    if number < LAST_NUMBER {
-        return number + 1;
-    }
-    number
-}
-
-fn put_others(
-    text: &mut [u8],
-    at: usize,
-    direction: &[u32],
-    cover: &[u32],
-    open: &[u64; CODES],
-    cells: usize,
-    depressions: u64,
-) -> usize {
-    let mut from = 0;
-    let mut left = depressions;
-    let mut next = at;
-    let mut i = 0;
-    while i < LISTED_OTHERS {
-        let searched = while_left(cells, left);
-        let other = next_other(direction, cover, open, searched, from);
-        let found = others_with(direction, cover, open, searched, other);
-        next = put_other(text, next, i == 0, other, found);
-        left = minus(left, found);
-        from = number_after(other);
-        i += 1;
-    }
-    put_rest(text, next, depressions, left)
-}
-
-fn put_edges(text: &mut [u8], at: usize, cells: Drained) -> usize {
-    let top = put_count_in(text, at, b"  off the grid: over the top ", cells.top, b"");
-    let bottom = put_count_in(text, top, b", the bottom ", cells.bottom, b"");
-    let left = put_count_in(text, bottom, b", the left ", cells.left, b"");
-    let right = put_count_in(text, left, b", the right ", cells.right, b"\n");
-    put_bytes(
-        text,
-        right,
-        b"  (over a corner counts as over the top or the bottom)\n",
+fn put_depressions(page: &mut Page, seen: &Seen) -> fmt::Result {
+    let depressions = seen.cells.depressions;
+    let counted = seen.mark(Warning::Counted);
+    let many = seen.mark(Warning::Depressions);
+    writeln!(
+        page,
+        "  closed depressions, which have any other number: {depressions}{counted}{many}"
     )
 }
 
+// The other numbers, each with its cells, while some of their cells are left.
+fn put_others(page: &mut Page, direction: &[u32], land: &Land, depressions: u64) -> fmt::Result {
+    if depressions == 0 {
+        return Ok(());
+    }
+    let mut left = depressions;
+    let mut lead = "         these are ";
+    let mut past = None;
+    for _ in 0..LISTED_OTHERS {
+        let Some(other) = land.next_other(direction, past) else {
+            break;
+        };
+        let found = land.cells_with(direction, other);
+        write!(page, "{lead}{other} ({found})")?;
+        left = left.saturating_sub(found);
+        lead = ", ";
+        past = Some(other);
+    }
+    if left == 0 {
+        return writeln!(page);
+    }
+    writeln!(page, ", and others ({left})")
+}
+
+fn put_edges(page: &mut Page, seen: &Seen) -> fmt::Result {
+    let top = seen.cells.top;
+    let bottom = seen.cells.bottom;
+    let left = seen.cells.left;
+    let right = seen.cells.right;
+    write!(
+        page,
+        "  off the grid: over the top {top}, the bottom {bottom}"
+    )?;
+    writeln!(page, ", the left {left}, the right {right}")?;
+    page.write_str("  (over a corner counts as over the top or the bottom)\n")
+}
+
 pub(crate) fn put_directions(
-    text: &mut [u8],
-    at: usize,
+    page: &mut Page,
     direction: &[u32],
-    cover: &[u32],
-    open: &[u64; CODES],
-    cells: usize,
-    drained: Drained,
-    warned: Warned,
-) -> usize {
-    let tallied = tally(direction, cover, open, cells);
-    let title = put_bytes(text, at, b"\nDirections (direction.asc), cells of land");
-    let marked = put_mark(text, title, warned.low_codes, b"W12");
-    let lined = put_bytes(text, marked, b"\n");
-    let eight = put_eight(text, lined, &tallied);
-    let closed = put_depressions(text, eight, drained, warned);
-    let others = put_others(
-        text,
-        closed,
-        direction,
-        cover,
-        open,
-        cells,
-        drained.depressions,
-    );
-    put_edges(text, others, drained)
-}
-
-fn is_line_full(put: u64, on_a_line: u64) -> bool {
-    if on_a_line == 0 {
-        return false;
-    }
-    (0 < put) & (put % on_a_line == 0)
-}
-
-// A new line where the last is full.
-fn put_break(text: &mut [u8], at: usize, put: u64, on_a_line: u64) -> usize {
-    if is_line_full(put, on_a_line) {
-        return put_byte(text, at, b'\n');
-    }
-    at
-}
-
-fn put_sign(text: &mut [u8], at: usize, open: bool) -> usize {
-    if open {
-        return put_byte(text, at, b'*');
-    }
-    put_byte(text, at, b':')
+    land: &Land,
+    seen: &Seen,
+) -> fmt::Result {
+    let mark = seen.mark(Warning::LowCodes);
+    writeln!(page, "\nDirections (direction.asc), cells of land{mark}")?;
+    put_eight(page, &land.tally(direction))?;
+    put_depressions(page, seen)?;
+    put_others(page, direction, land, seen.cells.depressions)?;
+    put_edges(page, seen)
 }
 
 // A cover that cells have, with their number.
-fn put_used(text: &mut [u8], at: usize, put: u64, code: u32, open: bool, cells: u64) -> usize {
-    if cells == 0 {
-        return at;
+#[derive(Clone, Copy)]
+struct Used {
+    cover: Cover,
+    cells: u64,
+}
+
+impl Display for Used {
+    fn fmt<W: fmt::Write>(&self, f: &mut Formatter<W>) -> fmt::Result {
+        let code = self.cover.code;
+        let sign = if self.cover.is_open_water { '*' } else { ':' };
+        let cells = self.cells;
+        write!(f, "{code:>7}{sign}{cells:>6}")
     }
-    let line = put_break(text, at, put, USED_ON_A_LINE);
-    let number = put_right(text, line, 7, Figure::Whole(wide(code)));
-    let sign = put_sign(text, number, open);
-    put_right(text, sign, 6, Figure::Whole(cells))
 }
 
 // A cover that no cell has.
-fn put_unused(text: &mut [u8], at: usize, put: u64, code: u32, cells: u64) -> usize {
-    if 0 < cells {
-        return at;
+#[derive(Clone, Copy)]
+struct Unused(Cover);
+
+impl Display for Unused {
+    fn fmt<W: fmt::Write>(&self, f: &mut Formatter<W>) -> fmt::Result {
+        let code = self.0.code;
+        write!(f, "{code:>7}")
     }
-    let line = put_break(text, at, put, UNUSED_ON_A_LINE);
-    put_right(text, line, 7, Figure::Whole(wide(code)))
 }
 
-fn put_list_end(text: &mut [u8], at: usize, put: u64) -> usize {
-    if put == 0 {
-        return put_bytes(text, at, b"   none\n");
+// What is listed of the table's covers, so much on a line.
+fn put_list<D: Display + Drop, F: Fn(Cover) -> Option<D>>(
+    page: &mut Page,
+    covers: Covers,
+    on_a_line: u64,
+    listed: F,
+) -> fmt::Result
+    requires { F.IsAlwaysCallable listed }
+{
+    let mut count = 0u64;
+    for cover in covers {
+        if let Some(item) = listed(cover) {
+            if 0 < count && count.is_multiple_of(on_a_line) {
+                writeln!(page)?;
+            }
+            write!(page, "{item}")?;
+            count = count.saturating_add(1);
+        }
     }
-    put_bytes(text, at, b"\n")
-}
-
-fn put_used_covers(text: &mut [u8], at: usize, covers: &[u32], tallied: &[u64; CODES]) -> usize {
-    let entries = covers.len() / ENTRY_NUMBERS;
-    let mut put = 0;
-    let mut next = at;
-    let mut i = 0;
-    while i < entries {
-        let code = covers[ENTRY_NUMBERS * i];
-        let open = covers[ENTRY_NUMBERS * i + 1] == 1;
-        let cells = of_number(tallied, code);
-        next = put_used(text, next, put, code, open, cells);
-        put = plus(put, one_if(0 < cells));
-        i += 1;
+    if count == 0 {
+        return page.write_str("   none\n");
     }
-    put_list_end(text, next, put)
-}
-
-fn put_unused_covers(text: &mut [u8], at: usize, covers: &[u32], tallied: &[u64; CODES]) -> usize {
-    let entries = covers.len() / ENTRY_NUMBERS;
-    let mut put = 0;
-    let mut next = at;
-    let mut i = 0;
-    while i < entries {
-        let code = covers[ENTRY_NUMBERS * i];
-        let cells = of_number(tallied, code);
-        next = put_unused(text, next, put, code, cells);
-        put = plus(put, one_if(cells == 0));
-        i += 1;
-    }
-    put_list_end(text, next, put)
+    writeln!(page)
 }
 
 // Of all cells, open water among them.
-pub(crate) fn put_covers(
-    text: &mut [u8],
-    at: usize,
-    covers: &[u32],
-    cover: &[u32],
-    cells: usize,
-) -> usize {
-    let no_open_water = [0u64; CODES];
-    let tallied = tally(cover, cover, &no_open_water, cells);
-    let title = put_bytes(
-        text,
-        at,
-        b"\nCovers (cover.asc), code and cells; * is open water\n",
-    );
-    let used = put_used_covers(text, title, covers, &tallied);
-    let words = put_bytes(
-        text,
-        used,
-        b"  covers of the table (covers.txt) that no cell has:\n",
-    );
-    put_unused_covers(text, words, covers, &tallied)
+pub(crate) fn put_covers(page: &mut Page, covers: &[u32], land: &Land) -> fmt::Result {
+    let tally = land.tally_covers();
+    page.write_str("\nCovers (cover.asc), code and cells; * is open water\n")?;
+    put_list(page, Covers(covers), USED_ON_A_LINE, |cover| {
+        let cells = tally.of(cover.code);
+        (0 < cells).then_some(Used { cover, cells })
+    })?;
+    page.write_str("  covers of the table (covers.txt) that no cell has:\n")?;
+    put_list(page, Covers(covers), UNUSED_ON_A_LINE, |cover| {
+        (tally.of(cover.code) == 0).then_some(Unused(cover))
+    })
 }
 
-fn put_four(text: &mut [u8], at: usize, tallied: &[u64; CODES]) -> usize {
-    let a = put_count_in(text, at, b"  A ", of_number(tallied, 1), b"");
-    let b = put_count_in(text, a, b", B ", of_number(tallied, 2), b"");
-    let c = put_count_in(text, b, b", C ", of_number(tallied, 3), b"");
-    put_count_in(text, c, b", D ", of_number(tallied, 4), b"\n")
-}
-
-pub(crate) fn put_groups(
-    text: &mut [u8],
-    at: usize,
-    group: &[u32],
-    cover: &[u32],
-    open: &[u64; CODES],
-    cells: usize,
-) -> usize {
-    let tallied = tally(group, cover, open, cells);
-    let title = put_bytes(text, at, b"\nSoil groups (group.asc), cells of land\n");
-    put_four(text, title, &tallied)
+pub(crate) fn put_groups(page: &mut Page, group: &[u32], land: &Land) -> fmt::Result {
+    let tally = land.tally(group);
+    let a = tally.of(1);
+    let b = tally.of(2);
+    let c = tally.of(3);
+    let d = tally.of(4);
+    page.write_str("\nSoil groups (group.asc), cells of land\n")?;
+    writeln!(page, "  A {a}, B {b}, C {c}, D {d}")
 }

@@ -1,275 +1,165 @@
 // A look at the input: its own figures, each beside what the sources know and with the mark of its warning, so that a person sees mistakes that document 01
 // allows. The weather and its months are here, the cells in `ground`.
 use crate::daily::Gathered;
-use crate::monthly::{MONTHS, Mean, Month, mean_of, put_month_name};
-use crate::numbers::nearest;
-use crate::putting::{Figure, degrees, put_left, put_right};
-use crate::warnings::{Seen, Warned, YEAR_LEAST_DAYS, inches_a_year};
-use words::put_bytes;
+use crate::figure::{Figure, degrees, nearest};
+use crate::monthly::{Month, MonthSums, Months, YEAR};
+use crate::warnings::{Mark, Seen, Warning};
+use std::fmt;
+use std::fmt::{InlineText, Write};
+use words::{Inches, Page};
 
 const NAME_WIDTH: usize = 44;
 
-const FIGURE_WIDTH: usize = 10;
-
-// The mark of a warning, behind its figure.
-pub(crate) fn put_mark(text: &mut [u8], at: usize, warned: bool, mark: &[u8]) -> usize {
-    if !warned {
-        return at;
-    }
-    let arrow = put_bytes(text, at, b"  <- ");
-    put_bytes(text, arrow, mark)
-}
-
 // A name, its figure, words on it, and the mark of its warning.
-fn put_line(
-    text: &mut [u8],
-    at: usize,
-    name: &[u8],
-    figure: Figure,
-    words: &[u8],
-    warned: bool,
-    mark: &[u8],
-) -> usize {
-    let blank = put_bytes(text, at, b"  ");
-    let named = put_left(text, blank, NAME_WIDTH, name);
-    let figured = put_right(text, named, FIGURE_WIDTH, figure);
-    let said = put_bytes(text, figured, words);
-    let marked = put_mark(text, said, warned, mark);
-    put_bytes(text, marked, b"\n")
+fn put_line(page: &mut Page, name: &str, figure: Figure, words: &str, mark: Mark) -> fmt::Result {
+    writeln!(page, "  {name:<NAME_WIDTH$}{figure:>10}{words}{mark}")
 }
 
-fn put_precipitation(text: &mut [u8], at: usize, days: Gathered, warned: bool) -> usize {
-    let figure = Figure::Hundredths(inches_a_year(days.gross, days.days));
-    let words = b" inches; the sources: 21.08 to 43.34 a year";
-    if days.days < YEAR_LEAST_DAYS {
-        return put_line(
-            text,
-            at,
-            b"precipitation of all days",
-            figure,
-            words,
-            warned,
-            b"W1",
-        );
-    }
+fn put_waters(page: &mut Page, seen: &Seen) -> fmt::Result {
+    let days = &seen.days;
+    let span = if days.is_year() {
+        "a year"
+    } else {
+        "of all days"
+    };
+    let fell = InlineText::<NAME_WIDTH>::of(format_args!("precipitation {span}"));
+    let asked = InlineText::<NAME_WIDTH>::of(format_args!("potential evapotranspiration {span}"));
     put_line(
-        text,
-        at,
-        b"precipitation a year",
-        figure,
-        words,
-        warned,
-        b"W1",
+        page,
+        fell.as_str(),
+        Figure::hundredths(days.precipitation()),
+        " inches; the sources: 21.08 to 43.34 a year",
+        seen.mark(Warning::Precipitation),
+    )?;
+    put_line(
+        page,
+        asked.as_str(),
+        Figure::hundredths(days.demand()),
+        " inches; the sources: 23.00 to 28.44 a year",
+        seen.mark(Warning::Potential),
+    )?;
+    put_line(
+        page,
+        "wettest day",
+        Figure::Inches(Inches(days.wettest)),
+        " inches",
+        seen.mark(Warning::Wettest),
     )
 }
 
-fn put_potential(text: &mut [u8], at: usize, days: Gathered, warned: bool) -> usize {
-    let figure = Figure::Hundredths(inches_a_year(days.potential, days.days));
-    let words = b" inches; the sources: 23.00 to 28.44 a year";
-    if days.days < YEAR_LEAST_DAYS {
-        return put_line(
-            text,
-            at,
-            b"potential evapotranspiration of all days",
-            figure,
-            words,
-            warned,
-            b"W3",
-        );
-    }
+fn put_seasons(page: &mut Page, seen: &Seen) -> fmt::Result {
     put_line(
-        text,
-        at,
-        b"potential evapotranspiration a year",
-        figure,
-        words,
-        warned,
-        b"W3",
+        page,
+        "warmest of June, July and August",
+        seen.summer.map_or(Figure::Missing, degrees),
+        " F; expected: 50.0 to 95.0",
+        seen.mark(Warning::Summer),
+    )?;
+    put_line(
+        page,
+        "coldest of December, January and February",
+        seen.winter.map_or(Figure::Missing, degrees),
+        " F; expected: -30.0 to 55.0",
+        seen.mark(Warning::Winter),
+    )?;
+    put_line(
+        page,
+        "months against the course of the year",
+        Figure::Whole(seen.course.pairs),
+        "; expected: none, each beside the third before",
+        seen.mark(Warning::Course),
     )
 }
 
-fn figure_of(mean: Mean) -> Figure {
-    if !mean.found {
-        return Figure::Missing;
-    }
-    degrees(mean.lifted)
-}
-
-fn put_seasons(text: &mut [u8], at: usize, seen: Seen, warned: Warned) -> usize {
-    let summer = seen.summer;
-    let winter = seen.winter;
-    let course = seen.course;
-    let warmest = put_line(
-        text,
-        at,
-        b"warmest of June, July and August",
-        figure_of(summer),
-        b" F; expected: 50.0 to 95.0",
-        warned.summer,
-        b"W4",
-    );
-    let coldest = put_line(
-        text,
-        warmest,
-        b"coldest of December, January and February",
-        figure_of(winter),
-        b" F; expected: -30.0 to 55.0",
-        warned.winter,
-        b"W5",
-    );
+fn put_course_of_days(page: &mut Page, seen: &Seen) -> fmt::Result {
     put_line(
-        text,
-        coldest,
-        b"months against the course of the year",
-        Figure::Whole(course.pairs),
-        b"; expected: none, each beside the third before",
-        warned.course,
-        b"W6",
+        page,
+        "days with a maximum above 32.0 F",
+        Figure::Whole(seen.days.thaw_days),
+        "",
+        seen.mark(Warning::Thaw),
+    )?;
+    put_line(
+        page,
+        "days whose day of year does not follow",
+        Figure::Whole(seen.days.breaks),
+        "; expected: none",
+        seen.mark(Warning::Follows),
     )
 }
 
-fn put_snow(text: &mut [u8], at: usize, days: Gathered, warned: Warned) -> usize {
-    let wet = put_line(
-        text,
-        at,
-        b"days with precipitation",
-        Figure::Whole(days.wet_days),
-        b"",
-        false,
-        b"",
-    );
-    let snow = put_line(
-        text,
-        wet,
-        b"of these, days of snow",
-        Figure::Whole(days.snow_days),
-        b"",
-        warned.snow,
-        b"W7",
-    );
+fn put_snow(page: &mut Page, seen: &Seen) -> fmt::Result {
     put_line(
-        text,
-        snow,
-        b"of these, in July and August",
-        Figure::Whole(days.summer_snow_days),
-        b"; expected: none",
-        warned.summer_snow,
-        b"W8",
+        page,
+        "days with precipitation",
+        Figure::Whole(seen.days.wet_days),
+        "",
+        Mark::NONE,
+    )?;
+    put_line(
+        page,
+        "of these, days of snow",
+        Figure::Whole(seen.days.snow_days),
+        "",
+        seen.mark(Warning::Snow),
+    )?;
+    put_line(
+        page,
+        "of these, in July and August",
+        Figure::Whole(seen.days.summer_snow_days),
+        "; expected: none",
+        seen.mark(Warning::SummerSnow),
     )
 }
 
-fn put_course_of_days(text: &mut [u8], at: usize, days: Gathered, warned: Warned) -> usize {
-    let thaw = put_line(
-        text,
-        at,
-        b"days with a maximum above 32.0 F",
-        Figure::Whole(days.thaw_days),
-        b"",
-        warned.thaw,
-        b"W9",
-    );
-    put_line(
-        text,
-        thaw,
-        b"days whose day of year does not follow",
-        Figure::Whole(days.breaks),
-        b"; expected: none",
-        warned.follows,
-        b"W10",
-    )
-}
-
-fn put_weather(text: &mut [u8], at: usize, seen: Seen, warned: Warned) -> usize {
-    let days = seen.days;
-    let head = put_bytes(text, at, b"Weather (weather.txt)\n");
-    let fell = put_precipitation(text, head, days, warned.precipitation);
-    let potential = put_potential(text, fell, days, warned.potential);
-    let wettest = put_line(
-        text,
-        potential,
-        b"wettest day",
-        Figure::Inches(days.wettest),
-        b" inches",
-        warned.wettest,
-        b"W2",
-    );
-    let seasons = put_seasons(text, wettest, seen, warned);
-    let followed = put_course_of_days(text, seasons, days, warned);
-    put_snow(text, followed, days, warned)
-}
-
-fn put_temperatures(text: &mut [u8], at: usize, month: Month) -> usize {
-    let lowest = put_right(text, at, 12, degrees(month.lowest));
-    let mean = put_right(text, lowest, 10, degrees(mean_of(month)));
-    put_right(text, mean, 10, degrees(month.highest))
-}
-
-fn put_waters(text: &mut [u8], at: usize, month: Month) -> usize {
-    let fell = put_right(text, at, 15, Figure::Hundredths(nearest(month.gross, 100)));
-    let asked = put_right(
-        text,
-        fell,
-        12,
-        Figure::Hundredths(nearest(month.potential, 100)),
-    );
-    let snow = put_right(text, asked, 12, Figure::Whole(month.snow_days));
-    put_bytes(text, snow, b"\n")
+fn put_weather(page: &mut Page, seen: &Seen) -> fmt::Result {
+    page.write_str("Weather (weather.txt)\n")?;
+    put_waters(page, seen)?;
+    put_seasons(page, seen)?;
+    put_course_of_days(page, seen)?;
+    put_snow(page, seen)
 }
 
 // Of a month: its days, the range of its days' means and the mean of them, and what fell and was asked for on its days, of all years together.
-fn put_month(text: &mut [u8], at: usize, index: usize, month: Month) -> usize {
-    if month.days == 0 {
-        return at;
-    }
-    let blank = put_bytes(text, at, b"  ");
-    let named = put_month_name(text, blank, index, 10);
-    let days = put_right(text, named, 6, Figure::Whole(month.days));
-    let temperatures = put_temperatures(text, days, month);
-    put_waters(text, temperatures, month)
+fn put_month(page: &mut Page, month: Month, sums: MonthSums) -> fmt::Result {
+    let days = sums.days;
+    let lowest = degrees(sums.lowest);
+    let mean = degrees(sums.mean());
+    let highest = degrees(sums.highest);
+    write!(
+        page,
+        "  {month:<10}{days:>6}{lowest:>12}{mean:>10}{highest:>10}"
+    )?;
+    let gross = Figure::hundredths(nearest(sums.gross, 100));
+    let potential = Figure::hundredths(nearest(sums.potential, 100));
+    let snow_days = sums.snow_days;
+    writeln!(page, "{gross:>15}{potential:>12}{snow_days:>12}")
 }
 
-fn put_month_lines(text: &mut [u8], at: usize, months: [Month; MONTHS]) -> usize {
-    let mut next = at;
-    let mut i = 0;
-    while i < MONTHS {
-        let month = months[i];
-        next = put_month(text, next, i, month);
-        i += 1;
+fn put_months(page: &mut Page, days: &Gathered, months: &Months) -> fmt::Result {
+    if days.days == 0 {
+        return Ok(());
     }
-    next
+    page.write_str(
+        "\n                                  daily means in F  precipitation   potential     days of\n",
+    )?;
+    page.write_str(
+        "  month       days      lowest      mean   highest         inches      inches        snow\n",
+    )?;
+    for (month, _) in YEAR {
+        let sums = months.of(month);
+        if 0 < sums.days {
+            put_month(page, month, sums)?;
+        }
+    }
+    Ok(())
 }
 
-fn put_months(text: &mut [u8], at: usize, days: u64, months: [Month; MONTHS]) -> usize {
-    if days == 0 {
-        return at;
-    }
-    let upper = put_bytes(
-        text,
-        at,
-        b"\n                                  daily means in F  precipitation   potential     days of\n",
-    );
-    let head = put_bytes(
-        text,
-        upper,
-        b"  month       days      lowest      mean   highest         inches      inches        snow\n",
-    );
-    put_month_lines(text, head, months)
-}
-
-pub(crate) fn put_days(
-    text: &mut [u8],
-    at: usize,
-    seen: Seen,
-    warned: Warned,
-    months: [Month; MONTHS],
-) -> usize {
-    let days = seen.days;
-    let title = put_bytes(text, at, b"A LOOK AT THE INPUT\n");
-    let words = put_bytes(
-        text,
-        title,
-        b"Mistakes within the limits are not refused, and give wrong figures. Compare this with what you know.\n\n",
-    );
-    let weather = put_weather(text, words, seen, warned);
-    put_months(text, weather, days.days, months)
+pub(crate) fn put_days(page: &mut Page, seen: &Seen, months: &Months) -> fmt::Result {
+    page.write_str("A LOOK AT THE INPUT\n")?;
+    page.write_str(
+        "Mistakes within the limits are not refused, and give wrong figures. Compare this with what you know.\n\n",
+    )?;
+    put_weather(page, seen)?;
+    put_months(page, &seen.days, months)
 }

@@ -1,25 +1,128 @@
 // The months of all years together, by the day of the year, and what is seen in their means.
-ghost use Rattle.std.specs.Prelude.{◌<◌};
+use crate::daily::{Day, Period};
+use crate::figure::nearest;
+use std::fmt;
+use std::fmt::{Display, Formatter};
 
-use crate::daily::{Day, day_at, day_count, snows};
-use crate::numbers::{nearest, one_if, plus};
-use crate::putting::put_left;
-
-pub(crate) const MONTHS: usize = 12;
+const MONTHS: usize = 12;
 
 // A month's mean is only looked at where it has so many days.
 const MONTH_LEAST_DAYS: u64 = 20;
 
-// The last pair of months that rises is April and July; those that fall are July and October up to October and January.
-const LAST_RISING: usize = 3;
+#[derive(Clone, Copy, PartialEq, Eq)]
+pub(crate) enum Month {
+    January,
+    February,
+    March,
+    April,
+    May,
+    June,
+    July,
+    August,
+    September,
+    October,
+    November,
+    December,
+}
 
-const FIRST_FALLING: usize = 6;
+// Each month and its last day, in a year of 365 days; day 366 counts as December's.
+pub(crate) const YEAR: [(Month, u64); MONTHS] = [
+    (Month::January, 31),
+    (Month::February, 59),
+    (Month::March, 90),
+    (Month::April, 120),
+    (Month::May, 151),
+    (Month::June, 181),
+    (Month::July, 212),
+    (Month::August, 243),
+    (Month::September, 273),
+    (Month::October, 304),
+    (Month::November, 334),
+    (Month::December, 365),
+];
 
-const LAST_FALLING: usize = 9;
+impl Month {
+    fn of(day_of_year: u64) -> Month {
+        for (month, last) in YEAR {
+            if day_of_year <= last {
+                return month;
+            }
+        }
+        Month::December
+    }
 
-// Means are lifted.
+    fn name(self) -> &'static str {
+        match self {
+            Month::January => "January",
+            Month::February => "February",
+            Month::March => "March",
+            Month::April => "April",
+            Month::May => "May",
+            Month::June => "June",
+            Month::July => "July",
+            Month::August => "August",
+            Month::September => "September",
+            Month::October => "October",
+            Month::November => "November",
+            Month::December => "December",
+        }
+    }
+}
+
+impl Display for Month {
+    fn fmt<W: fmt::Write>(&self, f: &mut Formatter<W>) -> fmt::Result {
+        f.pad(self.name())
+    }
+}
+
+// How a month's mean is against that of the third month before.
+#[derive(Clone, Copy, PartialEq, Eq)]
+pub(crate) enum Trend {
+    Warmer,
+    Colder,
+}
+
+impl Display for Trend {
+    fn fmt<W: fmt::Write>(&self, f: &mut Formatter<W>) -> fmt::Result {
+        match self {
+            Trend::Warmer => f.write_str("warmer"),
+            Trend::Colder => f.write_str("colder"),
+        }
+    }
+}
+
+// In the northern year each month from April to July is warmer than the third month before it, and each from October to January colder, however odd the year.
+const COURSE: [(Month, Trend, Month); 8] = [
+    (Month::April, Trend::Warmer, Month::January),
+    (Month::May, Trend::Warmer, Month::February),
+    (Month::June, Trend::Warmer, Month::March),
+    (Month::July, Trend::Warmer, Month::April),
+    (Month::October, Trend::Colder, Month::July),
+    (Month::November, Trend::Colder, Month::August),
+    (Month::December, Trend::Colder, Month::September),
+    (Month::January, Trend::Colder, Month::October),
+];
+
+// Two months that are against the course of the year, the later one first, and the means of both.
 #[derive(Clone, Copy)]
-pub(crate) struct Month {
+pub(crate) struct Against {
+    pub(crate) month: Month,
+    pub(crate) mean: u64,
+    pub(crate) trend: Trend,
+    pub(crate) before: Month,
+    pub(crate) mean_before: u64,
+}
+
+// How many pairs of months are against the course of the year, and the first of them.
+#[derive(Clone, Copy, Default)]
+pub(crate) struct Course {
+    pub(crate) pairs: u64,
+    pub(crate) first: Option<Against>,
+}
+
+// What is summed of a month's days; temperatures are lifted.
+#[derive(Clone, Copy)]
+pub(crate) struct MonthSums {
     pub(crate) days: u64,
     pub(crate) mean_sum: u64,
     pub(crate) lowest: u64,
@@ -29,249 +132,98 @@ pub(crate) struct Month {
     pub(crate) snow_days: u64,
 }
 
-// A month's mean, where there is one.
-#[derive(Clone, Copy)]
-pub(crate) struct Mean {
-    pub(crate) found: bool,
-    pub(crate) lifted: u64,
-}
-
-// How many pairs of months are against the course of the year; of the first pair the first month, and both means.
-#[derive(Clone, Copy)]
-pub(crate) struct Course {
-    pub(crate) pairs: u64,
-    pub(crate) first: usize,
-    pub(crate) before: Mean,
-    pub(crate) after: Mean,
-}
-
-// In a year of 365 days; day 366 counts as December's.
-fn month_index(day_of_year: u64) -> usize
-    ensures { result < 12 }
-{
-    if day_of_year <= 181 {
-        return first_half(day_of_year);
-    }
-    if day_of_year <= 212 {
-        return 6;
-    }
-    if day_of_year <= 243 {
-        return 7;
-    }
-    if day_of_year <= 273 {
-        return 8;
-    }
-    if day_of_year <= 304 {
-        return 9;
-    }
-    if day_of_year <= 334 {
-        return 10;
-    }
-    11
-}
-
-fn first_half(day_of_year: u64) -> usize
-    ensures { result < 12 }
-{
-    if day_of_year <= 31 {
-        return 0;
-    }
-    if day_of_year <= 59 {
-        return 1;
-    }
-    if day_of_year <= 90 {
-        return 2;
-    }
-    if day_of_year <= 120 {
-        return 3;
-    }
-    if day_of_year <= 151 {
-        return 4;
-    }
-    5
-}
-
-fn lower(month: Month, mean: u64) -> u64 {
-    if (month.days == 0) | (mean < month.lowest) {
-        return mean;
-    }
-    month.lowest
-}
-
-fn higher(month: Month, mean: u64) -> u64 {
-    if (month.days == 0) | (month.highest < mean) {
-        return mean;
-    }
-    month.highest
-}
-
-fn month_with(month: Month, day: Day) -> Month {
-    Month {
-        days: plus(month.days, 1),
-        mean_sum: plus(month.mean_sum, day.mean),
-        lowest: lower(month, day.mean),
-        highest: higher(month, day.mean),
-        gross: plus(month.gross, day.gross),
-        potential: plus(month.potential, day.potential),
-        snow_days: plus(month.snow_days, one_if(snows(day))),
-    }
-}
-
-pub(crate) fn gather_months(days: &[i32]) -> [Month; MONTHS] {
-    let n = day_count(days);
-    let none = Month {
+impl MonthSums {
+    // Of no days.
+    const NONE: MonthSums = MonthSums {
         days: 0,
         mean_sum: 0,
-        lowest: 0,
+        lowest: u64::MAX,
         highest: 0,
         gross: 0,
         potential: 0,
         snow_days: 0,
     };
-    let mut months = [none; MONTHS];
-    let mut i = 0;
-    while i < n {
-        let day = day_at(days, i);
-        let place = month_index(day.day_of_year);
-        let month = months[place];
-        months[place] = month_with(month, day);
-        i += 1;
+
+    fn add(&mut self, day: &Day) {
+        self.days = self.days.saturating_add(1);
+        self.mean_sum = self.mean_sum.saturating_add(day.mean);
+        self.lowest = self.lowest.min(day.mean);
+        self.highest = self.highest.max(day.mean);
+        self.gross = self.gross.saturating_add(day.gross);
+        self.potential = self.potential.saturating_add(day.potential);
+        self.snow_days = self.snow_days.saturating_add(u64::from(day.snows()));
     }
-    months
-}
 
-// Lifted, as its sum is: halves go up, also below zero.
-pub(crate) fn mean_of(month: Month) -> u64 {
-    nearest(month.mean_sum, month.days)
-}
-
-fn has_mean(month: Month) -> bool {
-    MONTH_LEAST_DAYS <= month.days
-}
-
-fn warmer(known: Mean, month: Month) -> Mean {
-    let lifted = mean_of(month);
-    if !has_mean(month) | (known.found & (lifted <= known.lifted)) {
-        return known;
+    // Lifted, as its sum is: halves go up, also below zero.
+    pub(crate) fn mean(&self) -> u64 {
+        nearest(self.mean_sum, self.days)
     }
-    Mean {
-        found: true,
-        lifted,
+
+    // The mean, where the month has days enough to look at it.
+    fn known_mean(&self) -> Option<u64> {
+        (MONTH_LEAST_DAYS <= self.days).then(|| self.mean())
     }
 }
 
-fn colder(known: Mean, month: Month) -> Mean {
-    let lifted = mean_of(month);
-    if !has_mean(month) | (known.found & (known.lifted <= lifted)) {
-        return known;
-    }
-    Mean {
-        found: true,
-        lifted,
-    }
-}
+#[derive(Drop)]
+pub(crate) struct Months([MonthSums; MONTHS]);
 
-fn no_mean() -> Mean {
-    Mean {
-        found: false,
-        lifted: 0,
+impl Months {
+    pub(crate) fn gather(period: &Period) -> Months {
+        let mut months = Months([MonthSums::NONE; MONTHS]);
+        for day in period.days() {
+            months.0[Month::of(day.day_of_year) as usize].add(&day);
+        }
+        months
     }
-}
 
-// The warmest of June, July and August.
-pub(crate) fn summer_of(months: [Month; MONTHS]) -> Mean {
-    let june = months[5];
-    let july = months[6];
-    let august = months[7];
-    warmer(warmer(warmer(no_mean(), june), july), august)
-}
-
-// The coldest of December, January and February.
-pub(crate) fn winter_of(months: [Month; MONTHS]) -> Mean {
-    let december = months[11];
-    let january = months[0];
-    let february = months[1];
-    colder(colder(colder(no_mean(), december), january), february)
-}
-
-// In the northern year each month from April to July is warmer than the third month before it, and each from October to January colder, however odd the year.
-fn is_against(first: usize, before: Month, after: Month) -> bool {
-    if !has_mean(before) | !has_mean(after) {
-        return false;
+    pub(crate) fn of(&self, month: Month) -> MonthSums {
+        self.0[month as usize]
     }
-    let rises = first <= LAST_RISING;
-    let falls = (FIRST_FALLING <= first) & (first <= LAST_FALLING);
-    let was = mean_of(before);
-    let is = mean_of(after);
-    (rises & (is <= was)) | (falls & (was <= is))
-}
 
-fn no_course() -> Course {
-    Course {
-        pairs: 0,
-        first: 0,
-        before: no_mean(),
-        after: no_mean(),
+    // The mean of the warmest of June, July and August.
+    pub(crate) fn summer(&self) -> Option<u64> {
+        [Month::June, Month::July, Month::August]
+            .iter()
+            .filter_map(|month| self.of(*month).known_mean())
+            .max()
     }
-}
 
-fn found_mean(month: Month) -> Mean {
-    Mean {
-        found: true,
-        lifted: mean_of(month),
+    // The mean of the coldest of December, January and February.
+    pub(crate) fn winter(&self) -> Option<u64> {
+        [Month::December, Month::January, Month::February]
+            .iter()
+            .filter_map(|month| self.of(*month).known_mean())
+            .min()
     }
-}
 
-fn with_pair(course: Course, first: usize, before: Month, after: Month) -> Course {
-    if !is_against(first, before, after) {
-        return course;
-    }
-    if course.pairs == 0 {
-        return Course {
-            pairs: 1,
-            first,
-            before: found_mean(before),
-            after: found_mean(after),
+    fn against(&self, month: Month, trend: Trend, before: Month) -> Option<Against> {
+        let mean = self.of(month).known_mean()?;
+        let mean_before = self.of(before).known_mean()?;
+        let follows = match trend {
+            Trend::Warmer => mean_before < mean,
+            Trend::Colder => mean < mean_before,
         };
+        if follows {
+            return None;
+        }
+        Some(Against {
+            month,
+            mean,
+            trend,
+            before,
+            mean_before,
+        })
     }
-    let mut next = course;
-    next.pairs = plus(course.pairs, 1);
-    next
-}
 
-pub(crate) fn course_of(months: [Month; MONTHS]) -> Course {
-    let mut course = no_course();
-    let mut first = 0;
-    while first < MONTHS {
-        let before = months[first];
-        let after = months[(first + 3) % MONTHS];
-        course = with_pair(course, first, before, after);
-        first += 1;
-    }
-    course
-}
-
-pub(crate) fn put_month_name(text: &mut [u8], at: usize, month: usize, width: usize) -> usize {
-    if month < 6 {
-        return put_early_name(text, at, month, width);
-    }
-    match month {
-        6 => put_left(text, at, width, b"July"),
-        7 => put_left(text, at, width, b"August"),
-        8 => put_left(text, at, width, b"September"),
-        9 => put_left(text, at, width, b"October"),
-        10 => put_left(text, at, width, b"November"),
-        _ => put_left(text, at, width, b"December"),
-    }
-}
-
-fn put_early_name(text: &mut [u8], at: usize, month: usize, width: usize) -> usize {
-    match month {
-        0 => put_left(text, at, width, b"January"),
-        1 => put_left(text, at, width, b"February"),
-        2 => put_left(text, at, width, b"March"),
-        3 => put_left(text, at, width, b"April"),
-        4 => put_left(text, at, width, b"May"),
-        _ => put_left(text, at, width, b"June"),
+    pub(crate) fn course(&self) -> Course {
+        let mut course = Course::default();
+        for (month, trend, before) in COURSE {
+            if let Some(against) = self.against(month, trend, before) {
+                course.pairs = course.pairs.saturating_add(1);
+                course.first = course.first.or(Some(against));
+            }
+        }
+        course
     }
 }

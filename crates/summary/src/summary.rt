@@ -1,137 +1,119 @@
 // The sheet for a person to read, from its title to the look at the input. How each figure is rounded is said in the plain C's bench/plain_sheet_text.c, to which
 // the gate holds every byte of it.
-use crate::best::{find_ends, put_ends};
-use crate::daily::{day_at, day_count, gather_days};
+use crate::best::Ends;
+use crate::daily::Period;
 use crate::ground::{put_covers, put_directions, put_groups};
-use crate::land::{CODES, Drained, cells_of, gather_cells, open_codes};
+use crate::land::{Drained, Land, OpenWater};
 use crate::look::put_days;
-use crate::monthly::{MONTHS, Month, course_of, gather_months, summer_of, winter_of};
-use crate::numbers::count;
-use crate::putting::put_count_in;
-use crate::totals::{Area, part_of, put_account, put_totals, put_years};
-use crate::warnings::{Seen, Warned, judge, put_warnings};
-use records::{Climate, Grid, wide};
-use words::put_bytes;
+use crate::monthly::Months;
+use crate::totals::{Account, Area, put_years};
+use crate::warning_lines::put_warnings;
+use crate::warnings::Seen;
+use records::{Climate, Grid, Season};
+use std::fmt;
+use std::fmt::Write;
+use words::Page;
 
-fn put_period(text: &mut [u8], at: usize, days: &[i32]) -> usize {
-    let n = day_count(days);
-    if n == 0 {
-        return put_bytes(text, at, b"Period      no days\n");
-    }
-    let first = day_at(days, 0);
-    let last = day_at(days, n - 1);
-    let a = put_count_in(text, at, b"Period      serial ", first.serial, b" to ");
-    let b = put_count_in(text, a, b"", last.serial, b", ");
-    let c = put_count_in(text, b, b"", count(n), b" days, from day of year ");
-    let d = put_count_in(text, c, b"", first.day_of_year, b" to ");
-    put_count_in(text, d, b"", last.day_of_year, b"\n")
+// What the sheet tells of.
+#[derive(Clone, Copy)]
+struct Input<'a> {
+    season: Season,
+    covers: &'a [u32],
+    direction: &'a [u32],
+    group: &'a [u32],
+    land: Land<'a>,
+    stored_at_start: u64,
+    period: Period<'a>,
+    recharged: &'a [u64],
 }
 
-fn put_grid(text: &mut [u8], at: usize, grid: Grid, drained: Drained) -> usize {
-    let columns = put_count_in(text, at, b"Grid        ", wide(grid.width), b" columns, ");
-    let rows = put_count_in(text, columns, b"", wide(grid.height), b" rows, ");
-    let cells = put_count_in(text, rows, b"", count(cells_of(grid)), b" cells: ");
-    put_land(text, cells, drained)
+fn put_period(page: &mut Page, period: &Period) -> fmt::Result {
+    let (Some(first), Some(last)) = (period.days().next(), period.days().last()) else {
+        return page.write_str("Period      no days\n");
+    };
+    let days = period.count();
+    let from = first.serial;
+    let to = last.serial;
+    write!(page, "Period      serial {from} to {to}, {days} days, ")?;
+    let from = first.day_of_year;
+    let to = last.day_of_year;
+    writeln!(page, "from day of year {from} to {to}")
 }
 
-fn put_land(text: &mut [u8], at: usize, drained: Drained) -> usize {
-    let land = put_count_in(text, at, b"", drained.land, b" of land, ");
-    let open = put_count_in(text, land, b"", drained.open_water, b" of open water\n");
-    put_count_in(
-        text,
-        open,
-        b"            closed depressions on land: ",
-        drained.depressions,
-        b"\n",
+fn put_grid(page: &mut Page, land: &Land, drained: &Drained) -> fmt::Result {
+    let width = land.grid.width;
+    let height = land.grid.height;
+    let cells = land.cells();
+    write!(
+        page,
+        "Grid        {width} columns, {height} rows, {cells} cells: "
+    )?;
+    let on_land = drained.land;
+    let open_water = drained.open_water;
+    let depressions = drained.depressions;
+    writeln!(page, "{on_land} of land, {open_water} of open water")?;
+    writeln!(
+        page,
+        "            closed depressions on land: {depressions}"
     )
 }
 
-fn put_head(
-    text: &mut [u8],
-    grid: Grid,
-    climate: Climate,
-    days: &[i32],
-    drained: Drained,
-) -> usize {
-    let season = climate.season;
-    let title = put_bytes(text, 0, b"RECHARGE SHEET\n");
-    let words = put_bytes(
-        text,
-        title,
-        b"A daily soil-water balance over a grid. Inches are means over its cells; a unit is 0.0001 inch.\n\n",
-    );
-    let period = put_period(text, words, days);
-    let sized = put_grid(text, period, grid, drained);
-    let first = put_count_in(
-        text,
-        sized,
-        b"Growing     from day of year ",
-        wide(season.first),
-        b" to ",
-    );
-    put_count_in(text, first, b"", wide(season.last), b"\n\n")
-}
+impl Input<'_> {
+    fn put_head(&self, page: &mut Page, drained: &Drained) -> fmt::Result {
+        page.write_str("RECHARGE SHEET\n")?;
+        page.write_str(
+            "A daily soil-water balance over a grid. Inches are means over its cells; a unit is 0.0001 inch.\n\n",
+        )?;
+        put_period(page, &self.period)?;
+        put_grid(page, &self.land, drained)?;
+        let first = self.season.first;
+        let last = self.season.last;
+        writeln!(page, "Growing     from day of year {first} to {last}\n")
+    }
 
-// Totals, years, account and cells.
-fn put_figures(
-    text: &mut [u8],
-    at: usize,
-    grid: Grid,
-    cover: &[u32],
-    open: &[u64; CODES],
-    drained: Drained,
-    stored_at_start: u64,
-    days: &[i32],
-    totals: &[u64],
-    recharged: &[u64],
-) -> usize {
-    let whole = Area {
-        cells: count(cells_of(grid)),
-        open_water: 0,
-    };
-    let land = Area {
-        cells: drained.land,
-        open_water: drained.open_water,
-    };
-    let all = part_of(days, totals, 0, day_count(days), stored_at_start);
-    let ends = find_ends(grid, cover, open, recharged);
-    let summed = put_totals(text, at, all, stored_at_start, whole, land);
-    let years = put_years(text, summed, days, totals, whole, land);
-    let account = put_account(text, years, stored_at_start, all);
-    put_ends(text, account, grid, drained.land, ends)
-}
+    // Totals, years, account and cells.
+    fn put_figures(&self, page: &mut Page, drained: &Drained) -> fmt::Result {
+        let grid = Area {
+            cells: self.land.cells() as u64,
+            open_water: 0,
+        };
+        let land = Area {
+            cells: drained.land,
+            open_water: drained.open_water,
+        };
+        let account = Account {
+            stored_at_start: self.stored_at_start,
+            all: self.period.sum(self.stored_at_start),
+            grid,
+            land,
+        };
+        account.put_totals(page)?;
+        put_years(page, self.period, grid, land)?;
+        account.put_account(page)?;
+        Ends::find(&self.land, self.recharged).put(page, &self.land)
+    }
 
-// The look at the input.
-fn put_input(
-    text: &mut [u8],
-    at: usize,
-    grid: Grid,
-    covers: &[u32],
-    direction: &[u32],
-    cover: &[u32],
-    group: &[u32],
-    open: &[u64; CODES],
-    seen: Seen,
-    warned: Warned,
-    months: [Month; MONTHS],
-) -> usize {
-    let cells = cells_of(grid);
-    let drained = seen.cells;
-    let weather = put_days(text, at, seen, warned, months);
-    let directions = put_directions(
-        text, weather, direction, cover, open, cells, drained, warned,
-    );
-    let covered = put_covers(text, directions, covers, cover, cells);
-    put_groups(text, covered, group, cover, open, cells)
-}
+    // The look at the input.
+    fn put_input(&self, page: &mut Page, seen: &Seen, months: &Months) -> fmt::Result {
+        put_days(page, seen, months)?;
+        put_directions(page, self.direction, &self.land, seen)?;
+        put_covers(page, self.covers, &self.land)?;
+        put_groups(page, self.group, &self.land)
+    }
 
-fn look_at(drained: Drained, days: &[i32], months: [Month; MONTHS]) -> Seen {
-    Seen {
-        days: gather_days(days),
-        summer: summer_of(months),
-        winter: winter_of(months),
-        course: course_of(months),
-        cells: drained,
+    fn put(&self, page: &mut Page) -> fmt::Result {
+        let months = Months::gather(&self.period);
+        let seen = Seen {
+            days: self.period.gather(),
+            summer: months.summer(),
+            winter: months.winter(),
+            course: months.course(),
+            cells: self.land.drain(self.direction),
+        };
+        self.put_head(page, &seen.cells)?;
+        put_warnings(page, &seen)?;
+        self.put_figures(page, &seen.cells)?;
+        self.put_input(page, &seen, &months)
     }
 }
 
@@ -149,26 +131,23 @@ pub fn put_sheet(
     totals: &[u64],
     recharged: &[u64],
 ) -> usize {
-    let open = open_codes(covers);
-    let drained = gather_cells(grid, direction, cover, &open);
-    let months = gather_months(days);
-    let seen = look_at(drained, days, months);
-    let warned = judge(seen);
-    let head = put_head(text, grid, climate, days, drained);
-    let warnings = put_warnings(text, head, seen, warned);
-    let figures = put_figures(
-        text,
-        warnings,
-        grid,
-        cover,
-        &open,
-        drained,
+    let open = OpenWater::of(covers);
+    let input = Input {
+        season: climate.season,
+        covers,
+        direction,
+        group,
+        land: Land {
+            grid,
+            cover,
+            open: &open,
+        },
         stored_at_start,
-        days,
-        totals,
+        period: Period { days, totals },
         recharged,
-    );
-    put_input(
-        text, figures, grid, covers, direction, cover, group, &open, seen, warned, months,
-    )
+    };
+    let mut page = Page::new(text);
+    // A page takes every text.
+    let _ = input.put(&mut page);
+    page.end()
 }

@@ -4,15 +4,11 @@
 // The thresholds are generous: a real year in the northern or central United States gives no warning. Each says which document, and which figure of it, it is
 // taken from; "document 000" and so on are the office's sources.
 use crate::daily::Gathered;
+use crate::figure::nearest;
 use crate::land::Drained;
-use crate::monthly::{Course, Mean};
-use crate::numbers::{nearest, one_if, plus, times};
-use crate::putting::put_count_in;
-use crate::warning_lines::{
-    put_day_warnings, put_direction_warnings, put_season_warnings, put_snow_warnings,
-    put_water_warnings,
-};
-use words::put_bytes;
+use crate::monthly::Course;
+use std::fmt;
+use std::fmt::{Display, Formatter};
 
 // Only so many days are called a year.
 pub(crate) const YEAR_LEAST_DAYS: u64 = 300;
@@ -69,142 +65,193 @@ const DEPRESSIONS_LEAST_CELLS: u64 = 20;
 
 // W1 to W13, in their order. W6 is given where two months are against the course of the year, W8 for snow in July or August, W10 where a day of year does not
 // follow, and W11 where a number of a tool that counts 1 to 8 is no direction here.
-#[derive(Clone, Copy)]
-pub(crate) struct Warned {
-    pub(crate) precipitation: bool,
-    pub(crate) wettest: bool,
-    pub(crate) potential: bool,
-    pub(crate) summer: bool,
-    pub(crate) winter: bool,
-    pub(crate) course: bool,
-    pub(crate) snow: bool,
-    pub(crate) summer_snow: bool,
-    pub(crate) thaw: bool,
-    pub(crate) follows: bool,
-    pub(crate) counted: bool,
-    pub(crate) low_codes: bool,
-    pub(crate) depressions: bool,
+#[derive(Clone, Copy, PartialEq, Eq)]
+pub(crate) enum Warning {
+    Precipitation,
+    Wettest,
+    Potential,
+    Summer,
+    Winter,
+    Course,
+    Snow,
+    SummerSnow,
+    Thaw,
+    Follows,
+    Counted,
+    LowCodes,
+    Depressions,
 }
 
-// What is seen in the input's figures: of the days, of their months, and of the cells.
+impl Warning {
+    pub(crate) const ALL: [Warning; 13] = [
+        Warning::Precipitation,
+        Warning::Wettest,
+        Warning::Potential,
+        Warning::Summer,
+        Warning::Winter,
+        Warning::Course,
+        Warning::Snow,
+        Warning::SummerSnow,
+        Warning::Thaw,
+        Warning::Follows,
+        Warning::Counted,
+        Warning::LowCodes,
+        Warning::Depressions,
+    ];
+
+    fn name(self) -> &'static str {
+        match self {
+            Warning::Precipitation => "W1",
+            Warning::Wettest => "W2",
+            Warning::Potential => "W3",
+            Warning::Summer => "W4",
+            Warning::Winter => "W5",
+            Warning::Course => "W6",
+            Warning::Snow => "W7",
+            Warning::SummerSnow => "W8",
+            Warning::Thaw => "W9",
+            Warning::Follows => "W10",
+            Warning::Counted => "W11",
+            Warning::LowCodes => "W12",
+            Warning::Depressions => "W13",
+        }
+    }
+
+    // The file to look at.
+    pub(crate) fn file(self) -> &'static str {
+        match self {
+            Warning::Counted | Warning::LowCodes | Warning::Depressions => "direction.asc",
+            _ => "weather.txt",
+        }
+    }
+}
+
+// Hundredths of an inch: of a year, or of all days where they are fewer.
+fn inches_a_year(units: u64, days: u64) -> u64 {
+    if days < YEAR_LEAST_DAYS {
+        return nearest(units, 100);
+    }
+    nearest(units.saturating_mul(365), days.saturating_mul(100))
+}
+
+fn is_outside(n: u64, least: u64, most: u64) -> bool {
+    n < least || most < n
+}
+
+// Is it more than so many percent?
+fn is_above(n: u64, percent: u64, of: u64) -> bool {
+    of.saturating_mul(percent) < n.saturating_mul(100)
+}
+
+impl Gathered {
+    pub(crate) fn is_year(&self) -> bool {
+        YEAR_LEAST_DAYS <= self.days
+    }
+
+    pub(crate) fn precipitation(&self) -> u64 {
+        inches_a_year(self.gross, self.days)
+    }
+
+    pub(crate) fn demand(&self) -> u64 {
+        inches_a_year(self.potential, self.days)
+    }
+
+    fn has_odd_precipitation(&self) -> bool {
+        self.is_year()
+            && is_outside(
+                self.precipitation(),
+                PRECIPITATION_LEAST,
+                PRECIPITATION_MOST,
+            )
+    }
+
+    fn has_no_wet_day(&self) -> bool {
+        WETTEST_LEAST_DAYS <= self.days && self.wettest < WETTEST_LEAST
+    }
+
+    fn has_odd_demand(&self) -> bool {
+        self.is_year() && is_outside(self.demand(), POTENTIAL_LEAST, POTENTIAL_MOST)
+    }
+
+    fn has_odd_snow(&self) -> bool {
+        let odd = self.snow_days == 0 || is_above(self.snow_days, SNOW_MOST, self.wet_days);
+        self.is_year() && 0 < self.wet_days && odd
+    }
+
+    fn has_no_thaw(&self) -> bool {
+        FROST_MOST_DAYS < self.days && self.thaw_days == 0
+    }
+}
+
+impl Drained {
+    fn has_low_codes(&self) -> bool {
+        LOW_CODES_LEAST_CELLS <= self.land && self.highest <= LOW_CODE
+    }
+
+    fn has_many_depressions(&self) -> bool {
+        DEPRESSIONS_LEAST_CELLS <= self.land
+            && is_above(self.depressions, DEPRESSIONS_MOST, self.land)
+    }
+}
+
+// What is seen in the input's figures: of the days, of the means of summer and winter and the course of the months, and of the cells.
 #[derive(Clone, Copy)]
 pub(crate) struct Seen {
     pub(crate) days: Gathered,
-    pub(crate) summer: Mean,
-    pub(crate) winter: Mean,
+    pub(crate) summer: Option<u64>,
+    pub(crate) winter: Option<u64>,
     pub(crate) course: Course,
     pub(crate) cells: Drained,
 }
 
-// Hundredths of an inch: of a year, or of all days where they are fewer.
-pub(crate) fn inches_a_year(units: u64, days: u64) -> u64 {
-    if days < YEAR_LEAST_DAYS {
-        return nearest(units, 100);
+impl Seen {
+    pub(crate) fn warns(&self, warning: Warning) -> bool {
+        match warning {
+            Warning::Precipitation => self.days.has_odd_precipitation(),
+            Warning::Wettest => self.days.has_no_wet_day(),
+            Warning::Potential => self.days.has_odd_demand(),
+            Warning::Summer => self
+                .summer
+                .is_some_and(|mean| is_outside(mean, SUMMER_LEAST, SUMMER_MOST)),
+            Warning::Winter => self
+                .winter
+                .is_some_and(|mean| is_outside(mean, WINTER_LEAST, WINTER_MOST)),
+            Warning::Course => self.course.first.is_some(),
+            Warning::Snow => self.days.has_odd_snow(),
+            Warning::SummerSnow => 0 < self.days.summer_snow_days,
+            Warning::Thaw => self.days.has_no_thaw(),
+            Warning::Follows => self.days.first_break.is_some(),
+            Warning::Counted => 0 < self.cells.counted,
+            Warning::LowCodes => self.cells.has_low_codes(),
+            Warning::Depressions => self.cells.has_many_depressions(),
+        }
     }
-    nearest(times(units, 365), times(100, days))
-}
 
-fn is_outside(n: u64, least: u64, most: u64) -> bool {
-    (n < least) | (most < n)
-}
-
-fn is_snow_odd(days: Gathered) -> bool {
-    let most = times(SNOW_MOST, days.wet_days);
-    (0 < days.wet_days) & ((days.snow_days == 0) | (most < times(100, days.snow_days)))
-}
-
-fn has_low_codes(cells: Drained) -> bool {
-    (LOW_CODES_LEAST_CELLS <= cells.land) & (cells.highest <= LOW_CODE)
-}
-
-fn has_many_depressions(cells: Drained) -> bool {
-    let most = times(DEPRESSIONS_MOST, cells.land);
-    (DEPRESSIONS_LEAST_CELLS <= cells.land) & (most < times(100, cells.depressions))
-}
-
-pub(crate) fn judge(seen: Seen) -> Warned {
-    let days = seen.days;
-    let cells = seen.cells;
-    let summer = seen.summer;
-    let winter = seen.winter;
-    let course = seen.course;
-    let year = YEAR_LEAST_DAYS <= days.days;
-    let fell = inches_a_year(days.gross, days.days);
-    let potential = inches_a_year(days.potential, days.days);
-    Warned {
-        precipitation: year & is_outside(fell, PRECIPITATION_LEAST, PRECIPITATION_MOST),
-        wettest: (WETTEST_LEAST_DAYS <= days.days) & (days.wettest < WETTEST_LEAST),
-        potential: year & is_outside(potential, POTENTIAL_LEAST, POTENTIAL_MOST),
-        summer: summer.found & is_outside(summer.lifted, SUMMER_LEAST, SUMMER_MOST),
-        winter: winter.found & is_outside(winter.lifted, WINTER_LEAST, WINTER_MOST),
-        course: 0 < course.pairs,
-        snow: year & is_snow_odd(days),
-        summer_snow: 0 < days.summer_snow_days,
-        thaw: (FROST_MOST_DAYS < days.days) & (days.thaw_days == 0),
-        follows: 0 < days.breaks,
-        counted: 0 < cells.counted,
-        low_codes: has_low_codes(cells),
-        depressions: has_many_depressions(cells),
+    // A warning's mark, where it is given.
+    pub(crate) fn mark(&self, warning: Warning) -> Mark {
+        Mark(self.warns(warning).then_some(warning))
     }
 }
 
-fn first_six(warned: Warned) -> u64 {
-    let water = plus(
-        one_if(warned.precipitation),
-        plus(one_if(warned.wettest), one_if(warned.potential)),
-    );
-    let warmth = plus(
-        one_if(warned.summer),
-        plus(one_if(warned.winter), one_if(warned.course)),
-    );
-    plus(water, warmth)
-}
-
-fn last_seven(warned: Warned) -> u64 {
-    let frost = plus(
-        one_if(warned.snow),
-        plus(one_if(warned.summer_snow), one_if(warned.thaw)),
-    );
-    let flow = plus(
-        one_if(warned.counted),
-        plus(one_if(warned.low_codes), one_if(warned.depressions)),
-    );
-    plus(one_if(warned.follows), plus(frost, flow))
-}
-
-fn put_none(text: &mut [u8], at: usize, days: u64) -> usize {
-    if days < YEAR_LEAST_DAYS {
-        return put_bytes(
-            text,
-            at,
-            b"Warnings    none, of what fewer than 300 days can show\n\n",
-        );
+impl Display for Warning {
+    fn fmt<W: fmt::Write>(&self, f: &mut Formatter<W>) -> fmt::Result {
+        f.pad(self.name())
     }
-    put_bytes(
-        text,
-        at,
-        b"Warnings    none: no figure below is far from what the sources' climates know\n\n",
-    )
 }
 
-pub(crate) fn put_warnings(text: &mut [u8], at: usize, seen: Seen, warned: Warned) -> usize {
-    let days = seen.days;
-    let cells = seen.cells;
-    let count = plus(first_six(warned), last_seven(warned));
-    if count == 0 {
-        return put_none(text, at, days.days);
+// The mark of a warning, behind its figure.
+#[derive(Clone, Copy)]
+pub(crate) struct Mark(Option<Warning>);
+
+impl Mark {
+    pub(crate) const NONE: Mark = Mark(None);
+}
+
+impl Display for Mark {
+    fn fmt<W: fmt::Write>(&self, f: &mut Formatter<W>) -> fmt::Result {
+        match self.0 {
+            None => Ok(()),
+            Some(warning) => write!(f, "  <- {warning}"),
+        }
     }
-    let head = put_count_in(
-        text,
-        at,
-        b"Warnings    ",
-        count,
-        b", each marked beside its figure below; they change nothing and refuse nothing\n",
-    );
-    let water = put_water_warnings(text, head, warned, days);
-    let seasons = put_season_warnings(text, water, warned, seen);
-    let snow = put_snow_warnings(text, seasons, warned, days);
-    let daily = put_day_warnings(text, snow, warned, days);
-    let directions = put_direction_warnings(text, daily, warned, cells);
-    put_bytes(text, directions, b"\n")
 }

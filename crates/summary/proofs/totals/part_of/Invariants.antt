@@ -1,9 +1,0 @@
--- `totals::part_of` is safe and ends: it goes from day to day.
-use Rattle.std.proofs.Common.{◌≤◌, ◌-◌}
-use Rattle.summary.proofs.totals.part_of.Given as goal
-
-abbrev pub invariant-loop-i : goal.invariant-loop-i
-invariant-loop-i l = l.first ≤ l.i
-
-abbrev pub decreases-loop-i : goal.decreases-loop-i
-decreases-loop-i l = l.past - l.i
