@@ -22,8 +22,8 @@ use Rattle.records.specs.Answers.{results_as}
 use Rattle.reasons.specs.Asked.{asked_of}
 use Rattle.reasons.proofs.WhyLaws.{five, zeros_each, why_refused, day_accepted}
 use Rattle.words.specs.Writing.{farthest, Wrote}
-use Rattle.lines.specs.declared.telling.Told.{Told}
-use Rattle.lines.specs.declared.telling.Told.TheVariants.{More, Last}
+use Rattle.std.specs.declared.ops.ControlFlow.{ControlFlow}
+use Rattle.std.proofs.Common.{Continue, Break}
 use Rattle.explained.specs.Lines.{figures_line, most_figures_line}
 use Rattle.explained.specs.Telling.{TellsReason, figures_by, state_after, DayTold}
 use Rattle.explained.proofs.TellingLaws.{Because, ByRefusal, reason_given_lem, reason_refused, lines_told, last_told}
@@ -117,18 +117,18 @@ module _ (s : Setup) (st : State) (d : Day) (i : ℕ) where
   unmoved (by_refusal why) refusal = refl
 
   -- the code's answer, with the line that was written of it
-  module _ (e : Explanation) (asked : e ≡ why_of s st d i) (buffer between : List ℕ) (told : Told) (line : TellsReason d.serial e buffer between told) where
-    pub given_reason : (next : ℕ) → told ≡ More next → Because (why_of s st d i)
+  module _ (e : Explanation) (asked : e ≡ why_of s st d i) (buffer between : List ℕ) (told : ControlFlow ℕ ℕ) (line : TellsReason d.serial e buffer between told) where
+    pub given_reason : (next : ℕ) → told ≡ Continue next → Because (why_of s st d i)
     given_reason next is = rw asked at (reason_given_lem d.serial buffer between told next e line is)
 
-    pub day_refused : (next : ℕ) → told ≡ Last next → DayTold s st d i st buffer between told
+    pub day_refused : (next : ℕ) → told ≡ Break next → DayTold s st d i st buffer between told
     day_refused next is =
         record {
           lines = rw (← asked) (last_told d.serial buffer between told next e (figures_of s st d i) line is);
           state = sym (ap (state_after s st d) (sym asked) ∙ unmoved e (reason_refused d.serial buffer between told next e line is));
         }
 
-    module _ (next : ℕ) (is : told ≡ More next) where
+    module _ (next : ℕ) (is : told ≡ Continue next) where
       abbrev reason : Because (why_of s st d i)
       reason = given_reason next is
 
@@ -137,7 +137,7 @@ module _ (s : Setup) (st : State) (d : Day) (i : ℕ) where
           → f ≡ figures_by (o.results.intercepted ++ more₁) (o.results.outflow ++ more₂) (o.results.evapotranspired ++ more₃) (o.results.recharged ++ more₄)
           (o.results.rejected ++ more₅) o.state.soil o.state.snow i
           → (after : List ℕ) (last : ℕ) → length buffer ≤ farthest → Wrote most_figures_line next (figures_line f) between after last
-          → DayTold s st d i o.state buffer after (More last)
+          → DayTold s st d i o.state buffer after (Continue last)
       day_told o left more₁ more₂ more₃ more₄ more₅ f read after last long w =
           let figures : f ≡ figures_of s st d i = read ∙ by_rules reason o left more₁ more₂ more₃ more₄ more₅ in
           record {

@@ -4,12 +4,13 @@ use mathlib.Core.List.{List, ◌++◌, append_assoc}
 use Prim.Native.Nat.{ℕ, ◌+◌, ◌^◌, ◌≤◌, ◌<◌}
 use native.Mathlib.Omega.{arith}
 use lib.ListN.{length}
-use Rattle.words.specs.Digits.{digits}
+use Rattle.words.specs.Digits.{digits, bytes}
 use Rattle.words.specs.Writing.{farthest, Put, Wrote}
 use Rattle.words.proofs.DigitLaws.{digits_short}
 use Rattle.words.proofs.WritingLaws.{wrote_length, wrote_then}
 use Rattle.words.specs.Inches.{inches}
-use Rattle.explained.specs.Lines.{say}
+use Rattle.paper.specs.Reasons.{Reason, open_water, under_snow, no_water, below_potential, room_for_all, above_largest, all_recharged}
+use Rattle.explained.specs.Lines.{say, reason_words, second_words, most_serial, most_reason_line}
 
 pub wrote_number : {at r : ℕ} {l l' : List ℕ} (n : ℕ) → n < 2 ^ 64 → Put at (digits n) l l' r → Wrote 20 at (digits n) l l' r
 wrote_number n fits p = record { put = p; short = digits_short n fits }
@@ -43,3 +44,14 @@ module _ {a b at mid r : ℕ} {l l₁ l₂ : List ℕ} (long : length l ≤ fart
     where
       regroup : (words ++ (inches depth ++ (beside ++ inches second))) ++ rest ≡ words ++ (inches depth ++ (beside ++ (inches second ++ rest)))
       regroup = simp append_assoc
+
+-- a reason's words leave room for its line
+pub words_fit : (r : Reason) → length (bytes (reason_words r)) + length (bytes (second_words r)) + most_serial ≤ most_reason_line
+unfolding reason_words second_words bytes
+words_fit open_water = omega arith
+words_fit under_snow = omega arith
+words_fit no_water = omega arith
+words_fit below_potential = omega arith
+words_fit room_for_all = omega arith
+words_fit above_largest = omega arith
+words_fit all_recharged = omega arith

@@ -7,8 +7,8 @@ use Rattle.paper.specs.Setup.{Setup}
 use Rattle.paper.specs.State.{State, Day}
 use Rattle.lines.specs.Lines.{refusal}
 use Rattle.words.specs.Writing.{Wrote}
-use Rattle.lines.specs.declared.telling.Told.{Told}
-use Rattle.lines.specs.declared.telling.Told.TheVariants.{More, Last}
+use Rattle.std.specs.declared.ops.ControlFlow.{ControlFlow}
+use Rattle.std.specs.declared.ops.ControlFlow.TheVariants.{Continue, Break}
 use Rattle.explained.specs.Lines.{reason_line, why_lines, most_reason_line, most_lines}
 use Rattle.explained.specs.declared.day_lines.Figures.{Figures}
 
@@ -26,30 +26,30 @@ figures_as f =
     }
 
 -- a refusal ends the run
-unfoldable pub told_in : Explanation → ℕ → Told
-told_in (because reason a b) next = More next
-told_in (by_refusal why) next = Last next
+unfoldable pub told_in : Explanation → ℕ → ControlFlow ℕ ℕ
+told_in (because reason a b) next = Continue next
+told_in (by_refusal why) next = Break next
 
 -- the reason's line alone, or the refusal
 unfoldable pub reason_or_refusal : ℕ → Explanation → List ℕ
 reason_or_refusal serial (because reason a b) = reason_line serial reason a b
 reason_or_refusal serial (by_refusal why) = refusal why
 
-pub record TellsReason (serial : ℕ) (e : Explanation) (before after : List ℕ) (r : Told) : Type 0 where
+pub record TellsReason (serial : ℕ) (e : Explanation) (before after : List ℕ) (r : ControlFlow ℕ ℕ) : Type 0 where
   pub next : ℕ
   pub result : r ≡ told_in e next
   pub line : Wrote most_reason_line 0 (reason_or_refusal serial e) before after next
 
 -- both lines, or the refusal, from the buffer's front on
-pub record Tells (serial : ℕ) (e : Explanation) (figures : paper.Figures) (before after : List ℕ) (r : Told) : Type 0 where
+pub record Tells (serial : ℕ) (e : Explanation) (figures : paper.Figures) (before after : List ℕ) (r : ControlFlow ℕ ℕ) : Type 0 where
   pub next : ℕ
   pub result : r ≡ told_in e next
   pub lines : Wrote most_lines 0 (why_lines serial e figures) before after next
 
 -- what was told lies within so many bytes
-abbrev pub Inside : Told → ℕ → Type 0
-Inside (More next) long = next ≤ long
-Inside (Last next) long = next ≤ long
+abbrev pub Inside : ControlFlow ℕ ℕ → ℕ → Type 0
+Inside (Continue next) long = next ≤ long
+Inside (Break next) long = next ≤ long
 
 -- what seven lists hold of a cell
 unfoldable pub figures_by : List ℕ → List ℕ → List ℕ → List ℕ → List ℕ → List ℕ → List ℕ → ℕ → paper.Figures
@@ -70,6 +70,6 @@ state_after s st d (because reason a b) = next_state s st d (figures_of s st d)
 state_after s st d (by_refusal why) = st
 
 -- a day of a setup from a state on: the lines say why the cell got its figures by the rules, and the figures
-pub record DayTold (s : Setup) (st : State) (d : Day) (cell : ℕ) (st' : State) (before after : List ℕ) (r : Told) : Type 0 where
+pub record DayTold (s : Setup) (st : State) (d : Day) (cell : ℕ) (st' : State) (before after : List ℕ) (r : ControlFlow ℕ ℕ) : Type 0 where
   pub lines : Tells d.serial (why_of s st d cell) (figures_of s st d cell) before after r
   pub state : st' ≡ state_after s st d (why_of s st d cell)

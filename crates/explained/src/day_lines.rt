@@ -1,15 +1,16 @@
 // The two lines of a day: why the cell got its figures, and the figures.
-ghost use Rattle.std.specs.Prelude.{◌++◌, ◌+◌, length};
+ghost use Rattle.std.specs.Prelude.{◌≡◌};
 ghost use Rattle.words.specs.Writing.{Wrote};
-ghost use Rattle.reasons.specs.Whys.{why_as};
-ghost use Rattle.words.specs.Digits.{digits, bytes};
-ghost use Rattle.explained.specs.Lines.{say as saying, line_end, figures_line, most_serial, most_figures_line};
+ghost use Rattle.reasons.specs.Whys.{reason_as, why_as};
+ghost use Rattle.words.specs.Digits.{bytes};
+ghost use Rattle.explained.specs.Lines.{reason_words, second_words, reason_line, most_reason_line, figures_line, most_figures_line};
 ghost use Rattle.explained.specs.Telling.{figures_as, TellsReason};
 
 use crate::saying::{say, say_two};
-use lines::{Told, refusal};
-use reasons::Why;
-use records::wide;
+use lines::refusal;
+use reasons::{Reason, Why};
+use records::{Refusal, wide};
+use std::ops::ControlFlow;
 use words::{put_bytes, put_number};
 
 // Room for the longest lines of a day: specs/Lines.antt says how it is made up.
@@ -27,88 +28,64 @@ pub(crate) struct Figures {
     pub(crate) snow: u64,
 }
 
-// A reason's line, by its words.
-fn reason_line(
-    buffer: &mut [u8],
-    serial: u32,
-    words: &[u8],
-    depth: u64,
-    beside: &[u8],
-    second: u64,
-) -> usize
-    ensures { Wrote (length words.now + length beside.now + most_serial) 0
-        (bytes "serial " ++ (digits serial ++ (bytes ": " ++ saying words.now depth (saying beside.now second line_end))))
-        buffer.old buffer.new result }
+// What a reason's first depth is.
+fn first_words(reason: Reason) -> &'static [u8]
+    ensures { result.now ≡ bytes (reason_words (reason_as reason)) }
+{
+    match reason {
+        Reason::OpenWater => b"open water: gross precipitation ",
+        Reason::UnderSnow => {
+            b"no water reached the ground and snow lies at the day's end: water "
+        }
+        Reason::NoWater => b"no water reached the ground: water ",
+        Reason::BelowPotential => {
+            b"infiltration below potential evapotranspiration: infiltration "
+        }
+        Reason::RoomForAll => b"the soil had room for all of it: surplus over potential ",
+        Reason::AboveLargest => b"excess above the cover's largest: excess ",
+        Reason::AllRecharged => b"all the excess recharged: excess ",
+    }
+}
+
+// And its second.
+fn second_words(reason: Reason) -> &'static [u8]
+    ensures { result.now ≡ bytes (second_words (reason_as reason)) }
+{
+    match reason {
+        Reason::OpenWater => b", inflow ",
+        Reason::UnderSnow => b", snow at the end ",
+        Reason::NoWater => b", snow at the end ",
+        Reason::BelowPotential => b", potential ",
+        Reason::RoomForAll => b", room ",
+        Reason::AboveLargest => b", largest ",
+        Reason::AllRecharged => b", largest ",
+    }
+}
+
+// A reason's line.
+fn reason_line(buffer: &mut [u8], serial: u32, why: Why) -> usize
+    ensures { Wrote most_reason_line 0 (reason_line serial (reason_as why.reason) why.first.0 why.second.0) buffer.old buffer.new result }
 {
     let a = put_bytes(buffer, 0, b"serial ");
     let b = put_number(buffer, a, wide(serial));
     let c = put_bytes(buffer, b, b": ");
-    let d = say_two(buffer, c, words, depth, beside, second);
+    let first = first_words(why.reason);
+    let second = second_words(why.reason);
+    let d = say_two(buffer, c, first, why.first.0, second, why.second.0);
     put_bytes(buffer, d, b" inches\n")
 }
 
-// The reason's line, or the refusal that explains a refused day.
-pub(crate) fn tell_reason(buffer: &mut [u8], serial: u32, why: Why) -> Told
+// The reason's line, or the refusal that explains a refused day and ends the run.
+pub(crate) fn tell_reason(
+    buffer: &mut [u8],
+    serial: u32,
+    why: Result<Why, Refusal>,
+) -> ControlFlow<usize, usize>
     ensures { TellsReason serial (why_as why) buffer.old buffer.new result }
 {
     match why {
-        Why::OpenWater(gross, inflow) => Told::More(reason_line(
-            buffer,
-            serial,
-            b"open water: gross precipitation ",
-            gross.0,
-            b", inflow ",
-            inflow.0,
-        )),
-        Why::UnderSnow(water, snow) => Told::More(reason_line(
-            buffer,
-            serial,
-            b"no water reached the ground and snow lies at the day's end: water ",
-            water.0,
-            b", snow at the end ",
-            snow.0,
-        )),
-        Why::NoWater(water, snow) => Told::More(reason_line(
-            buffer,
-            serial,
-            b"no water reached the ground: water ",
-            water.0,
-            b", snow at the end ",
-            snow.0,
-        )),
-        Why::BelowPotential(infiltration, potential) => Told::More(reason_line(
-            buffer,
-            serial,
-            b"infiltration below potential evapotranspiration: infiltration ",
-            infiltration.0,
-            b", potential ",
-            potential.0,
-        )),
-        Why::RoomForAll(surplus, room) => Told::More(reason_line(
-            buffer,
-            serial,
-            b"the soil had room for all of it: surplus over potential ",
-            surplus.0,
-            b", room ",
-            room.0,
-        )),
-        Why::AboveLargest(excess, largest) => Told::More(reason_line(
-            buffer,
-            serial,
-            b"excess above the cover's largest: excess ",
-            excess.0,
-            b", largest ",
-            largest.0,
-        )),
-        Why::AllRecharged(excess, largest) => Told::More(reason_line(
-            buffer,
-            serial,
-            b"all the excess recharged: excess ",
-            excess.0,
-            b", largest ",
-            largest.0,
-        )),
-        Why::Refused(why) => Told::Last(refusal(buffer, 0, why)),
+        Ok(why) => ControlFlow::Continue(reason_line(buffer, serial, why)),
+        Err(why) => ControlFlow::Break(refusal(buffer, 0, why)),
     }
 }
 

@@ -6,16 +6,9 @@ ghost use Rattle.records.specs.Days.{day_as};
 ghost use Rattle.explained.specs.Telling.{figures_as, figures_by, DayTold};
 
 use crate::day_lines::{Figures, figures_line, tell_reason};
-use lines::Told;
 use records::{Climate, DayRecord, Grid, MOST_CELLS, Past, wide};
+use std::ops::ControlFlow;
 use text::number_at;
-
-// What a day printed, and what the next one remembers.
-#[derive(Clone, Copy)]
-pub struct Explained {
-    pub told: Told,
-    pub past: Past,
-}
 
 // What a day left of a cell.
 #[tactic(auto, unfolding(crate::specs::Telling::figures_by))]
@@ -43,7 +36,7 @@ fn figures_at(
     }
 }
 
-// Writes the day's two lines from the buffer's front on, as many bytes as fit, and takes the stores to its end; of a day that is refused, its refusal, and nothing
+// Writes the day's two lines from the buffer's front on, as many bytes as fit, and takes the stores and the past to its end; of a day that is refused, its refusal, and nothing
 // else changes.
 pub fn explain_day(
     grid: Grid,
@@ -55,30 +48,28 @@ pub fn explain_day(
     water: &[u32],
     soil: &mut [u32],
     snow: &mut [u32],
-    past: Past,
+    past: &mut Past,
     day: DayRecord,
     cell: usize,
     buffer: &mut [u8],
-) -> Explained
+) -> ControlFlow<usize, usize>
     ensures { DayTold
         (setup_as grid climate covers.now direction.now cover.now group.now water.now)
-        (state_as soil.old snow.old past) (day_as day) cell
-        (state_as soil.new snow.new result.past) buffer.old buffer.new result.told }
+        (state_as soil.old snow.old past.old) (day_as day) cell
+        (state_as soil.new snow.new past.new) buffer.old buffer.new result }
 {
     let why = reasons::why(
-        grid, climate, covers, direction, cover, group, water, soil, snow, past, day, cell,
+        grid, climate, covers, direction, cover, group, water, soil, snow, *past, day, cell,
     );
-    let told = tell_reason(buffer, day.serial, why);
-    let Told::More(next) = told else {
-        return Explained { told, past };
-    };
+    let next = tell_reason(buffer, day.serial, why)?;
     let n = direction.len();
     let mut intercepted = [0u32; MOST_CELLS];
     let mut outflow = [0u32; MOST_CELLS];
     let mut evapotranspired = [0u32; MOST_CELLS];
     let mut recharged = [0u32; MOST_CELLS];
     let mut rejected = [0u32; MOST_CELLS];
-    let answer = recharge::day(
+    // The day passes its tests, since there is a reason: its totals are not printed.
+    let _ = recharge::day(
         grid,
         climate,
         covers,
@@ -106,7 +97,5 @@ pub fn explain_day(
         snow,
         cell,
     );
-    let told = Told::More(figures_line(buffer, next, figures));
-    let past = answer.past;
-    Explained { told, past }
+    ControlFlow::Continue(figures_line(buffer, next, figures))
 }

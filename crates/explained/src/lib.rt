@@ -6,4 +6,4 @@ mod explaining;
 mod saying;
 
 pub use day_lines::MOST_LINES;
-pub use explaining::{Explained, explain_day};
+pub use explaining::explain_day;
