@@ -10,10 +10,16 @@ use radiation::{Estimate, Weather};
 fn estimated(weather: Weather, potential: &mut u64) -> u64
     ensures { estimate result potential.new ≡ estimate_given (estimated_of (weather_as weather)) }
 {
-    let answer = radiation::potential(weather);
-    let depth = answer.depth();
-    *potential = depth.0;
-    numbered(answer.number(), answer.place())
+    match radiation::potential(weather) {
+        Ok(depth) => {
+            *potential = depth.0;
+            0
+        }
+        Err(why) => {
+            *potential = 0;
+            numbered(why.number(), 0)
+        }
+    }
 }
 
 pub fn recharge_turc(mean: f64, radiation: f64, humidity: f64, potential: &mut u64) -> u64

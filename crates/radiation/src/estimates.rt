@@ -3,7 +3,7 @@ ghost use Rattle.std.specs.Prelude.{◌≡◌, ◌≤◌};
 ghost use Rattle.paper.specs.Radiation.{turc_of, jensen_haise_of, millimetres as millimetresOf, units_of, estimate_units, estimated_of};
 ghost use Rattle.radiation.specs.Estimates.{weather_as, estimate_as, potential_as};
 
-use crate::answers::Potential;
+use crate::answers::BadReadings;
 use crate::limits::weather_fits;
 use crate::weather::{Estimate, Weather};
 use records::Depth;
@@ -58,13 +58,13 @@ fn units(millimetres: f64) -> f64
 }
 
 // Potential evapotranspiration of a day, never more than the most that a day may have: the greatest whole number of units not above the estimate.
-pub fn potential(weather: Weather) -> Potential
+pub fn potential(weather: Weather) -> Result<Depth, BadReadings>
     ensures { (potential_as result ≡ estimated_of (weather_as weather)) × (estimate_units (potential_as result) ≤ 20000) }
 {
     if !weather_fits(weather) {
-        return Potential::Readings;
+        return Err(BadReadings);
     }
     let estimate = weather.estimate;
     let depth = units(millimetres(weather.mean, estimate));
-    Potential::Estimated(Depth(std::num::truncating_f64_to_u64(depth)))
+    Ok(Depth(std::num::truncating_f64_to_u64(depth)))
 }

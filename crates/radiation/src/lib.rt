@@ -6,6 +6,6 @@ mod estimates;
 mod limits;
 mod weather;
 
-pub use answers::Potential;
+pub use answers::BadReadings;
 pub use estimates::potential;
 pub use weather::{Estimate, Weather};

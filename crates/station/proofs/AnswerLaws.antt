@@ -31,9 +31,9 @@ module _ {at r : ℕ} {l l' : List ℕ} (line : ℕ) (e : Estimated) where
   unfolding estimate_line row
   tells_estimate n is p = rw is p
 
-  pub tells_refusal : e ≡ readings → Put at (refused_line (estimate_number e) line) l l' r → Put at (estimate_line line e) l l' r
+  pub tells_refusal : e ≡ readings → Put at (refused_line (estimate_number readings) line) l l' r → Put at (estimate_line line e) l l' r
   unfolding estimate_line
-  tells_refusal is p = rw is (rw is at p)
+  tells_refusal is p = rw is p
 
 -- ---- and of a line, by what it asks for
 module _ {at r : ℕ} {l l' : List ℕ} (number : ℕ) (line : Line) where

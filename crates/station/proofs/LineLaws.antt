@@ -13,8 +13,8 @@ use borrow.Author.Tests.{lt-ltb, le-ltb, ne_eqb}
 use Rattle.theory.proofs.Cases.{below_or_not}
 use Rattle.paper.specs.Radiation.{whole, turc, jensen_haise}
 use Rattle.lines.specs.Reading.{Reading, most_numbers, negatives, given, codes, signed, form_in, Read}
-use Rattle.lines.specs.declared.reading.Form.{Form}
-use Rattle.lines.specs.declared.reading.Form.TheVariants.{Whole, Broken}
+use Rattle.lines.specs.declared.reading.BadForm.{BadForm}
+use Rattle.std.specs.Prelude.{Result, Ok, Err}
 use Rattle.lines.proofs.ReadingLaws.{front, codes_back}
 use Rattle.station.specs.Readings.{Line, estimate, malformed, reading_of, celsius_of, turc_line, jensen_haise_line, is_kind, line_of, line_in}
 
@@ -73,32 +73,32 @@ pub jensen_haise_line_lem :
 jensen_haise_line_lem t r a b = λ k. estimate (record { mean = a k; estimate = jensen_haise (b k) })
 
 -- by the form of what was read
-form_whole : (all : Reading) (count : ℕ) → form_in all.whole (length all.numbers) ≡ Whole count → (all.whole ≡ true) × (length all.numbers ≡ count)
+form_whole : (all : Reading) (count : ℕ) → form_in all.whole (length all.numbers) ≡ Ok count → (all.whole ≡ true) × (length all.numbers ≡ count)
 unfolding form_in
 form_whole all count e = go all.whole e
   where
-    go : (whole : Bool) → form_in whole (length all.numbers) ≡ Whole count → (whole ≡ true) × (length all.numbers ≡ count)
+    go : (whole : Bool) → form_in whole (length all.numbers) ≡ Ok count → (whole ≡ true) × (length all.numbers ≡ count)
     go true e = (refl, cc)
     go false e = absurd (let z : ◌≡◌ {A = ℕ} 0 1 = cc in omega arith)
 
-form_broken : (all : Reading) (count : ℕ) → form_in all.whole (length all.numbers) ≡ Broken count → all.whole ≡ false
+form_broken : (all : Reading) (why : BadForm) → form_in all.whole (length all.numbers) ≡ Err why → all.whole ≡ false
 unfolding form_in
-form_broken all count e = go all.whole e
+form_broken all why e = go all.whole e
   where
-    go : (whole : Bool) → form_in whole (length all.numbers) ≡ Broken count → whole ≡ false
+    go : (whole : Bool) → form_in whole (length all.numbers) ≡ Err why → whole ≡ false
     go true e = absurd (let z : ◌≡◌ {A = ℕ} 0 1 = cc in omega arith)
     go false e = refl
 
 -- what a read of a line says of it
-module _ (line before ns : List ℕ) (form : Form) (count : ℕ) (long : length before ≡ most_numbers) (read : Read (given line) before ns form) where
+module _ (line before ns : List ℕ) (form : Result ℕ BadForm) (count : ℕ) (long : length before ≡ most_numbers) (read : Read (given line) before ns form) where
   pub read_length : length ns ≡ most_numbers
   read_length = ap length read.numbers ∙ length-sets before 0 (codes (given line).numbers) ∙ long
 
-  pub line_broken : form ≡ Broken count → malformed ≡ line_in (given line)
+  pub line_broken : (why : BadForm) → form ≡ Err why → malformed ≡ line_in (given line)
   unfolding line_in
-  line_broken e = rw (form_broken (given line) count (sym read.form ∙ e)) refl
+  line_broken why e = rw (form_broken (given line) why (sym read.form ∙ e)) refl
 
-  pub line_whole : form ≡ Whole count → tested ns count ≡ line_in (given line)
+  pub line_whole : form ≡ Ok count → tested ns count ≡ line_in (given line)
   unfolding line_in
   line_whole e =
       let zs = (given line).numbers in

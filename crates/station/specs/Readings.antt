@@ -1,11 +1,10 @@
 -- A line of a station's readings (02, M-103): whole numbers, 1 T R H for Turc's estimate and 2 T R for Jensen and Haise's, T in tenths of a degree Celsius.
-use Rattle.std.specs.Prelude.{Bool, false, cond, List, [], ◌∷◌, ℕ, suc, eqb, Float, ℤ, pos, negsuc}
+use Rattle.std.specs.Prelude.{Bool, false, cond, List, [], ◌∷◌, ℕ, suc, eqb, Float, ℤ, pos, negsuc, Option, Some, None}
 use Rattle.std.specs.Float.Ieee.{neg}
 use Rattle.paper.specs.Radiation.{◌⊘◌, whole, turc, jensen_haise, Weather}
 use Rattle.lines.specs.Reading.{Reading}
 use Rattle.radiation.specs.Estimates.{weather_as}
-use Rattle.station.specs.declared.readings.Line as code
-use Rattle.station.specs.declared.readings.Line.TheVariants.{Estimate, Malformed}
+use Rattle.radiation.specs.declared.weather.Weather as code
 
 -- what a line asks for: the estimate of a day's weather, or nothing, where it has another form
 pub data Line : Type 0 where
@@ -45,6 +44,6 @@ unfoldable pub line_in : Reading → Line
 line_in r = cond r.whole (line_of r.numbers) malformed
 
 -- the code's line as this one
-abbrev pub line_as : code.Line → Line
-line_as (Estimate w) = estimate (weather_as w)
-line_as Malformed = malformed
+abbrev pub line_as : Option code.Weather → Line
+line_as (Some w) = estimate (weather_as w)
+line_as None = malformed

@@ -7,31 +7,31 @@ ghost use Rattle.radiation.specs.Estimates.{potential_as};
 ghost use Rattle.station.specs.Readings.{line_as};
 ghost use Rattle.station.specs.Answers.{estimate_line, answer_to, answers, answered, most_answers};
 
-use crate::readings::{Line, read_line};
+use crate::readings::read_line;
 use lines::{BAD_TEXT, MOST_BYTES, MOST_NUMBERS, refused};
-use radiation::Potential;
-use records::wide;
+use radiation::{BadReadings, Weather};
+use records::{Depth, wide};
 use words::{line_end, put_item};
 
 // Room for the answers to any text: specs/Answers.antt says how it is made up.
 pub const MOST_ANSWERS: usize = 1310720;
 
 // The estimate, or its refusal at the line.
-fn tell(buffer: &mut [u8], at: usize, line: u64, potential: Potential) -> usize
+fn tell(buffer: &mut [u8], at: usize, line: u64, potential: Result<Depth, BadReadings>) -> usize
     ensures { Put at (estimate_line line (potential_as potential)) buffer.old buffer.new result }
 {
     match potential {
-        Potential::Estimated(depth) => put_item(buffer, at, depth.0, b'\n'),
-        Potential::Readings => refused(buffer, at, wide(potential.number()), line),
+        Ok(depth) => put_item(buffer, at, depth.0, b'\n'),
+        Err(why) => refused(buffer, at, wide(why.number()), line),
     }
 }
 
-fn answer(buffer: &mut [u8], at: usize, number: u64, line: Line) -> usize
+fn answer(buffer: &mut [u8], at: usize, number: u64, line: Option<Weather>) -> usize
     ensures { Put at (answer_to number (line_as line)) buffer.old buffer.new result }
 {
     match line {
-        Line::Estimate(weather) => tell(buffer, at, number, radiation::potential(weather)),
-        Line::Malformed => refused(buffer, at, BAD_TEXT, number),
+        Some(weather) => tell(buffer, at, number, radiation::potential(weather)),
+        None => refused(buffer, at, BAD_TEXT, number),
     }
 }
 

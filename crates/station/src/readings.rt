@@ -3,15 +3,8 @@ ghost use Rattle.std.specs.Prelude.{◌≡◌, length};
 ghost use Rattle.lines.specs.Reading.{given, signed, most_numbers};
 ghost use Rattle.station.specs.Readings.{reading_of, celsius_of, line_in, line_as};
 
-use lines::{Form, MOST_NUMBERS, NEGATIVES, read};
+use lines::{MOST_NUMBERS, NEGATIVES, read};
 use radiation::{Estimate, Weather};
-
-#[derive(Clone, Copy)]
-pub(crate) enum Line {
-    Estimate(Weather),
-    // Not the numbers of an estimate.
-    Malformed,
-}
 
 // A line's first number, the estimate that it asks for, and how many numbers such a line has.
 const TURC: u32 = 1;
@@ -41,24 +34,24 @@ fn celsius(tenths: u32) -> f64
     reading(tenths) / TENTHS
 }
 
-// The numbers go into a lent array, which is for nothing else.
-pub(crate) fn read_line(line: &[u8], numbers: &mut [u32; MOST_NUMBERS]) -> Line
+// The weather of a line that has the numbers of an estimate. They go into a lent array, which is for nothing else.
+pub(crate) fn read_line(line: &[u8], numbers: &mut [u32; MOST_NUMBERS]) -> Option<Weather>
     requires { length numbers.old ≡ most_numbers }
     ensures { (line_as result ≡ line_in (given line.now)) × (length numbers.new ≡ most_numbers) }
 {
-    let Form::Whole(count) = read(line, numbers) else {
-        return Line::Malformed;
+    let Ok(count) = read(line, numbers) else {
+        return None;
     };
     let kind = numbers[0];
     if (count == TURC_NUMBERS) & (kind == TURC) {
         let mean = celsius(numbers[1]);
         let estimate = Estimate::Turc(reading(numbers[2]), reading(numbers[3]));
-        return Line::Estimate(Weather { mean, estimate });
+        return Some(Weather { mean, estimate });
     }
     if (count == JENSEN_HAISE_NUMBERS) & (kind == JENSEN_HAISE) {
         let mean = celsius(numbers[1]);
         let estimate = Estimate::JensenHaise(reading(numbers[2]));
-        return Line::Estimate(Weather { mean, estimate });
+        return Some(Weather { mean, estimate });
     }
-    Line::Malformed
+    None
 }

@@ -4,10 +4,10 @@ use Rattle.radiation.specs.Estimates.{potential_as}
 use Rattle.station.proofs.AnswerLaws.{tells_estimate, tells_refusal}
 use Rattle.station.proofs.answers.tell.Goals as goal
 
-pub returns-in-Estimated : goal.returns-in-Estimated
-returns-in-Estimated c = tells_estimate _ _ _ (ap potential_as c.in-Estimated.is) c.put_item.ensures
+pub returns-in-Ok : goal.returns-in-Ok
+returns-in-Ok c = tells_estimate _ _ _ (ap potential_as c.in-Ok.is) c.put_item.ensures
 
-pub returns-in-Readings : goal.returns-in-Readings
-returns-in-Readings c =
-    tells_refusal _ _ (ap potential_as c.in-Readings.is)
+pub returns-in-Err : goal.returns-in-Err
+returns-in-Err c =
+    tells_refusal _ _ (ap potential_as c.in-Err.is)
     (rw (c.wide.ensures, c.number.ensures.0) at c.refused.ensures.put)
