@@ -9,7 +9,7 @@ ghost use Rattle.grids.specs.Spans.{WordAt};
 
 use crate::measures::Measure;
 use crate::wholes::whole;
-use words::{Meaning, Span, next_word, number};
+use words::{Span, next_word, number};
 
 // The small letters stand so far after the capitals.
 const TO_SMALL: u8 = 32;
@@ -44,9 +44,8 @@ fn size(word: &[u8]) -> u32
     ensures { result ≡ size_of (number_of word.now) }
 {
     match number(word) {
-        Meaning::Plain(n) => n,
-        Meaning::Below(_) => 0,
-        Meaning::Bad => 0,
+        Some(n) if 0 <= n => n.unsigned_abs(),
+        _ => 0,
     }
 }
 
