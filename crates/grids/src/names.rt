@@ -30,12 +30,10 @@ fn is_name(word: &[u8], name: &[u8]) -> bool
     if word.len() != name.len() {
         return false;
     }
-    let mut i = 0;
-    while i < word.len() {
+    for i in 0..word.len() {
         if lower(word[i]) != name[i] {
             return false;
         }
-        i += 1;
     }
     true
 }
@@ -54,10 +52,8 @@ pub(crate) fn span_at(text: &[u8], k: usize) -> Span
     ensures { WordAt text.now k result.start result.end }
 {
     let mut word = next_word(text, 0);
-    let mut i = 0;
-    while i < k {
+    for _ in 0..k {
         word = next_word(text, word.end);
-        i += 1;
     }
     word
 }

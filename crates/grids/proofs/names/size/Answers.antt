@@ -1,5 +1,5 @@
 -- `names::size` meets its contract: a number of zero or more, else none.
-use Rattle.std.proofs.Common.{sym, ap, ◌∙◌, ◌≡◌, Bool, true, false, nat_abs}
+use Rattle.std.proofs.Common.{sym, ap, ◌∙◌, nat_abs}
 use Rattle.grids.proofs.WholeLaws.{number_read}
 use Rattle.grids.proofs.NameLaws.{size_plain, size_below, size_bad}
 use Rattle.grids.proofs.names.size.Goals as goal
