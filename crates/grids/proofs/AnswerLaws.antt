@@ -10,6 +10,7 @@ use lib.IntN.{ℤ}
 use lib.ListN.{length, drop}
 use lib.Seq.{sets}
 use borrow.Author.Tests.{leb-true}
+use Rattle.std.specs.Prelude.{Result, Ok, Err}
 use Rattle.theory.proofs.Cases.{by_cases}
 use Rattle.paper.specs.Setup.{cells_of}
 use Rattle.words.specs.Words.{words}
@@ -22,10 +23,9 @@ use Rattle.grids.specs.Cells.{wholes, cells_in, cell_fits, passing}
 use Rattle.grids.specs.Judging.{Verdict, accepted, refused, judged, on_accepted}
 use Rattle.grids.specs.Forms.{most_header, most_depth}
 use Rattle.grids.specs.Reading.{header_read, cells_read, read_verdict}
-use Rattle.grids.specs.Given.{header_as, header_in, verdict_as, Reads, Writes}
+use Rattle.grids.specs.Given.{header_as, header_in, verdict_as, answer_in, Reads, Writes}
 use Rattle.grids.specs.declared.headers.Header as code
-use Rattle.grids.specs.declared.judging.GridVerdict.{GridVerdict}
-use Rattle.grids.specs.declared.judging.GridVerdict.TheVariants.{Accepted, Refused}
+use Rattle.grids.specs.declared.judging.BadGrid.{BadGrid}
 use Rattle.grids.proofs.MeasureLaws.{text_back, measured_few}
 use Rattle.grids.proofs.AcceptedLaws.{fit, same_room, header_fit}
 
@@ -46,24 +46,27 @@ form_judged {end = end} {form = form} h pass count text w short =
     (same_room h pass count (leb end (length text)) (leb (length form) (length text))
     (λ good e. let near = few_bytes h count (length form) good e short in ap (λ (n : ℕ). leb n (length text)) (omega (arith, w.put.end, near))))
 
-module _ (verdict : Verdict) (form before after : List ℕ) (v : GridVerdict) (says : verdict_as v ≡ verdict) where
-  pub writes_yes :
-      {most count : ℕ} → v ≡ Accepted → length form ≤ length before → length before ≤ farthest → Wrote most 0 form before after count
-      → Writes verdict form before after (record { verdict = v; count = count })
-  unfolding on_accepted
-  writes_yes e fits long w =
-      let taken : verdict ≡ accepted = sym says ∙ ap verdict_as e in
-      record { judged = says; count = rw taken (omega (arith, w.put.end)); bytes = rw taken w.put.buffer }
+-- what a verdict of the code says of the paper's
+pub taken : {v : Result (Unit {0}) BadGrid} {done : Unit {0}} (verdict : Verdict) → verdict_as v ≡ verdict → v ≡ Ok done → verdict ≡ accepted
+taken verdict says e = sym says ∙ ap verdict_as e
 
-  pub writes_no : (place : ℕ) → v ≡ Refused place → after ≡ before → Writes verdict form before after (record { verdict = v; count = 0 })
-  unfolding on_accepted
-  writes_no place e same =
-      let left : verdict ≡ refused place = sym says ∙ ap verdict_as e in
-      record { judged = says; count = rw left refl; bytes = rw left same }
+pub left : {v : Result (Unit {0}) BadGrid} (verdict : Verdict) (bad : BadGrid) → verdict_as v ≡ verdict → v ≡ Err bad → verdict ≡ refused bad.0
+left verdict bad says e = sym says ∙ ap verdict_as e
+
+module _ (verdict : Verdict) (form before after : List ℕ) where
+  pub writes_yes :
+      {most count : ℕ} → verdict ≡ accepted → length form ≤ length before → length before ≤ farthest → Wrote most 0 form before after count
+      → Writes verdict form before after (Ok count)
+  unfolding on_accepted answer_in
+  writes_yes e fits long w = record { answer = rw e (ap Ok (omega (arith, w.put.end))); bytes = rw e w.put.buffer }
+
+  pub writes_no : (bad : BadGrid) → verdict ≡ refused bad.0 → after ≡ before → Writes verdict form before after (Err bad)
+  unfolding on_accepted answer_in
+  writes_no bad e same = record { answer = rw e refl; bytes = rw e same }
 
 -- an accepted verdict says that there is room
-pub room_enough : (h : Header) (pass count need room : ℕ) (v : GridVerdict) → verdict_as v ≡ judged h pass count (leb need room) → v ≡ Accepted → need ≤ room
-room_enough h pass count need room v says e = leb-true need room (fit h pass count (leb need room) (sym says ∙ ap verdict_as e)).room
+pub room_enough : (h : Header) (pass count need room : ℕ) → judged h pass count (leb need room) ≡ accepted → need ≤ room
+room_enough h pass count need room e = leb-true need room (fit h pass count (leb need room) e).room
 
 -- the header that is read is the paper's
 pub header_back : (ws : List (List ℕ)) → header_as (header_in (header_of ws)) ≡ header_of ws
@@ -105,19 +108,13 @@ module _ (text : List ℕ) (start end : ℕ) (last : WordAt text 11 start end) w
   unfolding read_verdict
   read_judged h pass count room eh ep ec = rw (ep, ec, cells_after, eh, header_back (words text)) refl
 
-module _ (text : List ℕ) (before after : List ℤ) (v : GridVerdict) (says : verdict_as v ≡ read_verdict text (length before)) where
+module _ (text : List ℕ) (before after : List ℤ) where
   pub reads_yes :
-      (h : code.Header) → v ≡ Accepted → h ≡ header_in (header_read text) → after ≡ sets before 0 (cells_read text)
-      → Reads text before after (record { verdict = v; header = h })
-  unfolding on_accepted
-  reads_yes h e header cells =
-      let taken : read_verdict text (length before) ≡ accepted = sym says ∙ ap verdict_as e in
-      record { verdict = says; header = rw taken header; cells = rw taken cells }
+      (h : code.Header) → read_verdict text (length before) ≡ accepted → h ≡ header_in (header_read text) → after ≡ sets before 0 (cells_read text)
+      → Reads text before after (Ok h)
+  unfolding on_accepted answer_in
+  reads_yes h e header cells = record { answer = rw e (ap Ok header); cells = rw e cells }
 
-  pub reads_no :
-      (h : code.Header) (place : ℕ) → v ≡ Refused place → h ≡ header_in no_header → after ≡ before
-      → Reads text before after (record { verdict = v; header = h })
-  unfolding on_accepted
-  reads_no h place e header same =
-      let left : read_verdict text (length before) ≡ refused place = sym says ∙ ap verdict_as e in
-      record { verdict = says; header = rw left header; cells = rw left same }
+  pub reads_no : (bad : BadGrid) → read_verdict text (length before) ≡ refused bad.0 → after ≡ before → Reads text before after (Err bad)
+  unfolding on_accepted answer_in
+  reads_no bad e same = record { answer = rw e refl; cells = rw e same }

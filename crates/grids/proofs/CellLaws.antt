@@ -1,19 +1,17 @@
 -- Which cells are refused: on the machine's signed numbers, and one after another.
 use mathlib.Core.Bool.{Bool, true, false, not, ◌&&◌}
-use mathlib.Core.List.{List}
-use mathlib.Core.Path.{◌≡◌, refl, sym, ◌∙◌}
-use Prim.Native.Nat.{ℕ, ◌+◌, ◌*◌, ◌≤◌, ◌<◌}
-use native.Mathlib.Nat.{add-zero}
-use native.Mathlib.Numerals.{add-one}
+use mathlib.Core.List.{List, [], ◌∷◌}
+use mathlib.Core.Path.{◌≡◌, refl}
+use Prim.Native.Nat.{ℕ, ◌*◌}
 use native.Mathlib.Omega.{arith}
 use lib.Dec.{eqb}
 use lib.IntN.{ℤ, pos, negsuc, nat_abs}
-use lib.ListN.{length, get_or, drop, drop_of_length-le}
-use lib.Seq.{drop-cons}
 use lib.Signed.{le_z, lt_z}
 use mir.Syntax.{w32}
 use mir.Val.{SFits}
 use borrow.Author.Tests.{ltb-true}
+use Rattle.std.specs.List.{prefix_len}
+use Rattle.theory.proofs.Cases.{by_cases}
 use Rattle.grids.specs.Headers.{whole_fits}
 use Rattle.grids.specs.Cells.{is_same, cell_fits, depth_fits, passing}
 use Rattle.grids.proofs.WholeLaws.{read, whole}
@@ -42,19 +40,8 @@ pub depth_plain :
     → not (eqb units (10000 * far)) ≡ depth_fits no_data units
 depth_plain no_data units far h p e = rw (e, whole no_data h) (plain_depth no_data units (rw (whole no_data h) at p))
 
--- a loop over cells: those before its place pass
-module _ {A : Type 0} (test : A → Bool) (l : List A) (d : A) (i : ℕ) where
-  pub passing_next :
-      passing test l ≡ i + passing test (drop i l) → i < length l → test (get_or l i d) ≡ true
-      → passing test l ≡ (i + 1) + passing test (drop (i + 1) l)
-  unfolding passing
-  passing_next all h e =
-      all ∙ rw (drop-cons l i d h, e, add-one i) (omega arith)
-
-  pub passing_stop : passing test l ≡ i + passing test (drop i l) → i < length l → test (get_or l i d) ≡ false → i ≡ passing test l
-  unfolding passing
-  passing_stop all h e = sym (all ∙ rw (drop-cons l i d h, e) (add-zero i))
-
-  pub passing_end : passing test l ≡ i + passing test (drop i l) → length l ≤ i → i ≡ passing test l
-  unfolding passing
-  passing_end all h = sym (all ∙ rw (drop_of_length-le l {i = i} h) (add-zero i))
+-- what an iterator counts
+pub passing_counted : {A : Type 0} (test : A → Bool) (l : List A) → prefix_len test l ≡ passing test l
+unfolding passing
+passing_counted test [] = refl
+passing_counted test (x ∷ xs) = rw (passing_counted test xs) (by_cases (test x) (λ e. rw e (omega arith)) (λ e. rw e refl))

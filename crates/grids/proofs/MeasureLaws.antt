@@ -1,21 +1,21 @@
 -- A measure's form, byte by byte: what a loop over its bytes has passed and what is left decide it together.
-use mathlib.Core.Bool.{true, false, ◌&&◌}
+use mathlib.Core.Bool.{true, false, not, ◌&&◌}
 use mathlib.Core.List.{List, [], ◌∷◌}
+use mathlib.Core.Logic.{◌⊎◌, inl, inr}
 use mathlib.Core.Path.{◌≡◌, refl, sym, ap, ◌∙◌}
-use Prim.Native.Nat.{ℕ, suc, ◌+◌, ◌≤◌, ◌<◌}
+use Prim.Native.Nat.{ℕ, suc, ◌+◌, ◌-◌, ◌≤◌, ◌<◌}
 use native.Mathlib.Nat.{zero-add}
 use native.Mathlib.Numerals.{add-one}
 use native.Mathlib.Omega.{arith}
-use lib.Dec.{leb, ltb}
-use lib.ListN.{length, get_or, take, drop, replicate, drop_of_length-le}
-use lib.Seq.{sets, drop-cons, length-sets, sets-eq, take_at}
+use lib.Dec.{eqb, leb}
+use lib.ListN.{length, get_or, take, drop, replicate, length-drop, drop_of_length-le}
+use lib.Seq.{sets, drop-cons, length-sets, sets-eq, take_all, take_at}
 use borrow.Author.Tests.{lt-ltb, le-ltb, le-leb, lt-leb, eq-eqb, ne_eqb, leb-true}
 use Rattle.theory.specs.Lists.{made}
 use Rattle.theory.proofs.Cases.{by_cases, below_or_not, and_left}
-use Rattle.theory.proofs.ListLaws.{made_length, made_cong, made_snoc, take_made}
+use Rattle.theory.proofs.ListLaws.{made_length, made_cong, take_made}
 use Rattle.words.specs.Numbers.{is_digit, all_digits}
-use Rattle.words.specs.Writing.{farthest, Put}
-use Rattle.words.proofs.WritingLaws.{put_then, put_as}
+use Rattle.words.specs.Writing.{Put}
 use Rattle.grids.specs.Measures.{most_characters, is_digits, goes_on, is_unsigned, without_minus, is_measure, measured}
 use Rattle.grids.specs.Given.{text_as, measure_in}
 use Rattle.grids.specs.declared.measures.Measure.{Measure}
@@ -32,12 +32,6 @@ module _ (l : List ℕ) (i : ℕ) where
   pub all_end : length l ≤ i → all_digits (drop i l) ≡ true
   unfolding all_digits
   all_end h = rw (drop_of_length-le l {i = i} h) refl
-
-  pub some_digits : (ltb i (length l) && all_digits (drop i l)) ≡ is_digits (drop i l)
-  unfolding is_digits all_digits
-  some_digits =
-      below_or_not i (length l) (λ h. rw (lt-ltb i (length l) h, drop-cons l i 0 h) refl)
-      (λ h. rw (le-ltb i (length l) h, drop_of_length-le l {i = i} h) refl)
 
   pub on_point : i < length l → get_or l i 0 ≡ 46 → goes_on (drop i l) ≡ is_digits (drop (i + 1) l)
   unfolding goes_on
@@ -56,33 +50,44 @@ module _ (l : List ℕ) (i : ℕ) where
   unfolding goes_on
   on_end h = rw (drop_of_length-le l {i = i} h) refl
 
-  pub unsigned_none : length l ≤ i → is_unsigned (drop i l) ≡ false
-  unfolding is_unsigned
-  unsigned_none h = rw (drop_of_length-le l {i = i} h) refl
+-- what a slice from a place on lends
+pub rest_all : (l : List ℕ) (k : ℕ) → take (length l - k) (drop k l) ≡ drop k l
+rest_all l k = take_all (length l - k) (drop k l) (omega (arith, length-drop k l))
 
-  pub unsigned_some : i < length l → is_unsigned (drop i l) ≡ (is_digit (get_or l i 0) && goes_on (drop (i + 1) l))
-  unfolding is_unsigned
-  unsigned_some h = rw (drop-cons l i 0 h, add-one i) refl
+-- the tests of a word: none, or a first byte and the rest
+nothing : (l : List ℕ) → length l ≡ 0 → l ≡ []
+nothing [] e = refl
+nothing (b ∷ bs) e = absurd (omega arith)
 
--- the tests of a whole word
+pub some_digits : (l : List ℕ) → (not (eqb (length l) 0) && all_digits l) ≡ is_digits l
+unfolding is_digits all_digits
+some_digits [] = refl
+some_digits (b ∷ bs) = rw (ne_eqb (suc (length bs)) 0 (λ e. omega arith)) refl
+
+pub unsigned_none : (l : List ℕ) → length l ≡ 0 → is_unsigned l ≡ false
+unfolding is_unsigned
+unsigned_none l e = rw (nothing l e) refl
+
+pub unsigned_some : (l : List ℕ) (b : ℕ) (bs : List ℕ) → l ≡ b ∷ bs → is_unsigned l ≡ (is_digit b && goes_on bs)
+unfolding is_unsigned
+unsigned_some l b bs e = rw e refl
+
 pub measure_none : (l : List ℕ) → length l ≡ 0 → is_measure l ≡ false
 unfolding is_measure is_unsigned without_minus
-measure_none [] e = refl
-measure_none (b ∷ bs) e = absurd (omega arith)
+measure_none l e = rw (nothing l e) refl
 
 pub measure_long : (l : List ℕ) → most_characters < length l → is_measure l ≡ false
 unfolding is_measure
 measure_long l h = rw (lt-leb (length l) most_characters h) refl
 
-pub measure_minus : (l : List ℕ) → (length l ≡ 0 → ⊥) → length l ≤ most_characters → get_or l 0 0 ≡ 45 → is_measure l ≡ is_unsigned (drop 1 l)
-unfolding is_measure without_minus
-measure_minus [] n h e = absurd (n refl)
-measure_minus (b ∷ bs) n h e = rw (le-leb (suc (length bs)) most_characters h, eq-eqb b 45 e) refl
+module _ (l : List ℕ) (b : ℕ) (bs : List ℕ) (is : l ≡ b ∷ bs) (h : length l ≤ most_characters) where
+  pub measure_minus : b ≡ 45 → is_measure l ≡ is_unsigned bs
+  unfolding is_measure without_minus
+  measure_minus e = rw (le-leb (length l) most_characters h, is, eq-eqb b 45 e) refl
 
-pub measure_plain : (l : List ℕ) → (length l ≡ 0 → ⊥) → length l ≤ most_characters → (get_or l 0 0 ≡ 45 → ⊥) → is_measure l ≡ is_unsigned (drop 0 l)
-unfolding is_measure without_minus
-measure_plain [] n h e = absurd (n refl)
-measure_plain (b ∷ bs) n h e = rw (le-leb (suc (length bs)) most_characters h, ne_eqb b 45 e) refl
+  pub measure_plain : (b ≡ 45 → ⊥) → is_measure l ≡ is_unsigned l
+  unfolding is_measure without_minus
+  measure_plain e = rw (le-leb (length l) most_characters h, is, ne_eqb b 45 e) refl
 
 pub measure_short : (l : List ℕ) → is_measure l ≡ true → length l ≤ most_characters
 unfolding is_measure
@@ -118,26 +123,21 @@ text_few m =
     below_or_not most_characters m.count (λ h. rw (text_long m h) (omega arith))
     (λ h. rw (text_short m h, made_length m.count (λ i. get_or m.bytes i 0)) h)
 
--- byte after byte
-pub none_made : (f : ℕ → ℕ) → [] ≡ made 0 f
-unfolding made
-none_made f = refl
+-- the bytes before the count, and a count past them all
+module _ (m : Measure) (sized : length m.bytes ≡ most_characters) where
+  pub text_some : (text : List ℕ) → m.count ≤ length m.bytes → text ≡ take (m.count - 0) (drop 0 m.bytes) → text ≡ text_as m
+  text_some text h e =
+      let all : m.count - 0 ≡ m.count = omega arith in
+      let taken : take m.count m.bytes ≡ made m.count (λ i. get_or m.bytes (0 + i) 0) = take_made m.count 0 m.bytes (omega (arith, h)) in
+      e
+      ∙ ap (λ (n : ℕ). take n m.bytes) all
+      ∙ taken
+      ∙ made_cong m.count _ _ (λ i less. ap (λ (k : ℕ). get_or m.bytes k 0) (zero-add i))
+      ∙ sym (text_short m (omega (arith, h, sized)))
 
-pub put_byte_more :
-    {at next r : ℕ} {l l₁ l₂ : List ℕ} (f : ℕ → ℕ) (i : ℕ) → length l ≤ farthest → Put at (made i f) l l₁ next → Put next (f i ∷ []) l₁ l₂ r
-    → Put at (made (i + 1) f) l l₂ r
-put_byte_more f i h w v = rw (add-one i, made_snoc i f) (put_then h w v)
-
-pub put_text : {at r : ℕ} {l l' : List ℕ} (m : Measure) (i : ℕ) → i ≡ m.count → m.count ≤ most_characters → Put at (made i (λ j. get_or m.bytes j 0)) l l' r → Put at (text_as m) l l' r
-put_text m i e h w = put_as (text_as m) w (ap (λ (n : ℕ). made n (λ j. get_or m.bytes j 0)) e ∙ sym (text_short m h))
-
--- the text as it was put into zeros
-pub text_front :
-    (text bytes : List ℕ) (count : ℕ) → length text ≤ most_characters → Put 0 text (replicate most_characters 0) bytes count
-    → (count ≡ length text) × (take count bytes ≡ text)
-text_front text bytes count h w =
-    let same : count ≡ length text = omega (arith, w.end) in
-    (same, rw (w.buffer, sets-eq text (replicate most_characters 0) 0 (omega arith), same) (take_at text (drop (0 + length text) (replicate most_characters 0)) (length text) refl))
+  pub text_none : (m.count < 0) ⊎ (length m.bytes < m.count) → [] ≡ text_as m
+  text_none (inl h) = absurd (omega (arith, h))
+  text_none (inr h) = sym (text_long m (omega (arith, h, sized)))
 
 -- a text in a record is the text
 pub text_back : (text : List ℕ) → length text ≤ most_characters → text_as (measure_in text) ≡ text

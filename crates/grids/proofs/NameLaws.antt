@@ -1,18 +1,19 @@
 -- Names in either letter case, byte by byte, and a word's size by its meaning.
-use mathlib.Core.Bool.{Bool, true, false, ◌&&◌}
+use mathlib.Core.Bool.{Bool, true, false, ◌&&◌, true≢false}
 use mathlib.Core.List.{List, [], ◌∷◌}
-use mathlib.Core.Path.{◌≡◌, refl, ap}
+use mathlib.Core.Path.{◌≡◌, refl, sym, ap, ◌∙◌}
 use Prim.Native.Nat.{ℕ, zero, suc, ◌+◌, ◌≤◌, ◌<◌}
 use native.Mathlib.Numerals.{add-one}
 use native.Mathlib.Omega.{arith}
 use lib.Dec.{eqb, leb}
-use lib.IntN.{pos, negsuc}
+use lib.IntN.{ℤ, pos, negsuc, nat_abs}
+use lib.Signed.{le_z}
 use lib.ListN.{length, get_or, drop, drop_of_length-le}
 use lib.Seq.{drop-cons}
-use borrow.Author.Tests.{eq-eqb, ne_eqb, leb-true}
+use borrow.Author.Tests.{eq-eqb, ne_eqb, le-leb, leb-true}
 use Rattle.theory.proofs.Cases.{by_cases, and_right}
-use Rattle.words.specs.Numbers.{Word, good, bad, meaning_in}
-use Rattle.words.specs.declared.numbers.Meaning.TheVariants.{Plain, Below, Bad}
+use Rattle.std.specs.Prelude.{Some, None}
+use Rattle.words.specs.Numbers.{Word, good, bad, number_in}
 use Rattle.grids.specs.Headers.{no_header, size_of, lower, lowered, same, named, values_in, header_of}
 
 -- a capital's small letter, and any other byte itself
@@ -69,23 +70,22 @@ module _ (xs ys : List ℕ) (i : ℕ) (sized : length xs ≡ length ys) where
       let past : length ys ≤ i = omega (arith, h, sized) in
       rw (drop_of_length-le xs {i = i} h, drop_of_length-le ys {i = i} past) refl
 
--- columns or rows by a word's meaning
-pub size_plain : (m : Word) (n : ℕ) → meaning_in m ≡ Plain n → n ≡ size_of m
-unfolding meaning_in size_of
-size_plain (good (pos k)) n e = cc
-size_plain (good (negsuc k)) n e = absurd (let o : ◌≡◌ {A = ℕ} 0 1 = cc in omega arith)
-size_plain bad n e = absurd (let o : ◌≡◌ {A = ℕ} 0 1 = cc in omega arith)
+-- columns or rows by a word's number
+pub size_plain : (m : Word) (z : ℤ) → Some z ≡ number_in m → le_z (pos 0) z ≡ true → nat_abs z ≡ size_of m
+unfolding number_in size_of
+size_plain (good (pos k)) z e p = let same : z ≡ pos k = cc in rw same refl
+size_plain (good (negsuc k)) z e p = let same : z ≡ negsuc k = cc in absurd (true≢false (sym (rw same at p)))
+size_plain bad z e p = absurd (let o : ◌≡◌ {A = ℕ} 0 1 = cc in omega arith)
 
-pub size_below : (m : Word) (n : ℕ) → meaning_in m ≡ Below n → 0 ≡ size_of m
-unfolding meaning_in size_of
-size_below (good (pos k)) n e = absurd (let o : ◌≡◌ {A = ℕ} 0 1 = cc in omega arith)
-size_below (good (negsuc k)) n e = refl
-size_below bad n e = absurd (let o : ◌≡◌ {A = ℕ} 0 1 = cc in omega arith)
+pub size_below : (m : Word) (z : ℤ) → Some z ≡ number_in m → le_z (pos 0) z ≡ false → 0 ≡ size_of m
+unfolding number_in size_of
+size_below (good (pos k)) z e p = let same : z ≡ pos k = cc in absurd (true≢false (sym (le-leb 0 k (omega arith)) ∙ rw same at p))
+size_below (good (negsuc k)) z e p = refl
+size_below bad z e p = absurd (let o : ◌≡◌ {A = ℕ} 0 1 = cc in omega arith)
 
-pub size_bad : (m : Word) → meaning_in m ≡ Bad → 0 ≡ size_of m
-unfolding meaning_in size_of
-size_bad (good (pos k)) e = absurd (let o : ◌≡◌ {A = ℕ} 0 1 = cc in omega arith)
-size_bad (good (negsuc k)) e = refl
+pub size_bad : (m : Word) → None ≡ number_in m → 0 ≡ size_of m
+unfolding number_in size_of
+size_bad (good z) e = absurd (let o : ◌≡◌ {A = ℕ} 0 1 = cc in omega arith)
 size_bad bad e = refl
 
 -- a header by its names

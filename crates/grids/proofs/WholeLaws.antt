@@ -3,7 +3,7 @@
 use mathlib.Core.Bool.{true, false, ◌&&◌}
 use mathlib.Core.List.{List, ◌∷◌}
 use mathlib.Core.Path.{◌≡◌, refl, sym, ap, ◌∙◌}
-use Prim.Native.Nat.{ℕ, suc, ◌≤◌, ◌<◌}
+use Prim.Native.Nat.{ℕ, suc, ◌≤◌}
 use native.Mathlib.Nat.{zero-add}
 use native.Mathlib.Omega.{arith}
 use lib.Dec.{T}
@@ -11,13 +11,13 @@ use lib.IntN.{ℤ, pos, negsuc, nat_abs, ◌-ℤ◌}
 use lib.Signed.{le_z, lt_z, non_neg, nat_abs-le}
 use mir.Syntax.{w32, w64}
 use mir.Val.{Fits, SFits, to_z, of_z}
-use mir.Facts.{to_z-of_z, to_z_pos}
-use borrow.Author.Tests.{ltb-true, lt-ltb}
+use mir.Facts.{to_z-of_z}
+use borrow.Author.Tests.{ltb-true}
+use Rattle.std.specs.Prelude.{Option, Some, unwrap_or}
 use Rattle.words.specs.Digits.{digits, written}
-use Rattle.words.specs.Numbers.{Word, good, bad, number, meaning_in}
+use Rattle.words.specs.Numbers.{Word, good, bad, number, number_in}
 use Rattle.words.specs.Writing.{Put, Wrote}
-use Rattle.words.specs.declared.numbers.Meaning.TheVariants.{Plain, Below, Bad}
-use Rattle.words.proofs.NumberLaws.{NineDigits, Small, number_small, plain_small, below_small}
+use Rattle.words.proofs.NumberLaws.{NineDigits, Small, number_small}
 use Rattle.words.proofs.DigitLaws.{digits_below}
 use Rattle.words.proofs.WritingLaws.{wrote_as, wrote_bytes}
 use Rattle.grids.specs.Headers.{whole_fits, no_number, whole_of}
@@ -99,53 +99,29 @@ module _ (z : ℤ) (h : SFits w32 z) where
         wrote_as most_signed (written z) (wrote_bytes w) (ap digits (e ∙ ap nat_abs whole) ∙ sym (plain_written z (rw whole at p)))
         (rw (plain_written z (rw whole at p)) (omega (arith, digits_below 9 (nat_abs z) (omega (arith, near)))))
 
--- what a word means, by its meaning
-whole_plain : (m : Word) (n : ℕ) → meaning_in m ≡ Plain n → pos n ≡ whole_of m
-unfolding meaning_in whole_of
-whole_plain (good (pos k)) n e = cc
-whole_plain (good (negsuc k)) n e = absurd (let o : ◌≡◌ {A = ℕ} 0 1 = cc in omega arith)
-whole_plain bad n e = absurd (let o : ◌≡◌ {A = ℕ} 0 1 = cc in omega arith)
-
-whole_below : (m : Word) (n : ℕ) → meaning_in m ≡ Below n → pos 0 -ℤ pos n ≡ whole_of m
-unfolding meaning_in whole_of
-whole_below (good (pos k)) n e = absurd (let o : ◌≡◌ {A = ℕ} 0 1 = cc in omega arith)
-whole_below (good (negsuc k)) n e = let same : suc k ≡ n = cc in rw (← same) (less_suc k)
-  where
-    less_suc : (k : ℕ) → pos 0 -ℤ pos (suc k) ≡ negsuc k
-    less_suc k = rw (lt-ltb 0 (suc k) (omega arith)) (ap negsuc (omega arith))
-whole_below bad n e = absurd (let o : ◌≡◌ {A = ℕ} 0 1 = cc in omega arith)
-
-pub whole_bad : (m : Word) → meaning_in m ≡ Bad → no_number ≡ whole_of m
-unfolding meaning_in whole_of
-whole_bad (good (pos k)) e = absurd (let o : ◌≡◌ {A = ℕ} 0 1 = cc in omega arith)
-whole_bad (good (negsuc k)) e = absurd (let o : ◌≡◌ {A = ℕ} 0 1 = cc in omega arith)
-whole_bad bad e = refl
-
+-- what a word means: its number, which fits 32 bits, or the number below all of nine digits
 pub meant_fits : (m : Word) → Small m → SFits w32 (whole_of m)
 unfolding whole_of Small NineDigits
 meant_fits (good (pos n)) s = record { sfits = omega (arith, s) }
 meant_fits (good (negsuc k)) s = record { sfits = omega (arith, s) }
 meant_fits bad s = record { sfits = omega arith }
 
-module _ (w : List ℕ) (n : ℕ) where
-  pub plain_fits : meaning_in (number w) ≡ Plain n → SFits w32 (pos n)
-  plain_fits e = record { sfits = omega (arith, plain_small (number w) n (number_small w) e) }
+number_fits : (m : Word) (z : ℤ) → Small m → Some z ≡ number_in m → SFits w32 z
+unfolding Small NineDigits number_in
+number_fits (good (pos n)) z s e = let same : z ≡ pos n = cc in rw same (record { sfits = omega (arith, s) })
+number_fits (good (negsuc n)) z s e = let same : z ≡ negsuc n = cc in rw same (record { sfits = omega (arith, s) })
+number_fits bad z s e = absurd (let o : ◌≡◌ {A = ℕ} 0 1 = cc in omega arith)
 
-  pub plain_is : meaning_in (number w) ≡ Plain n → to_z w32 n ≡ whole_of (number w)
-  plain_is e = to_z_pos w32 (omega (arith, plain_small (number w) n (number_small w) e)) ∙ whole_plain (number w) n e
+-- a word's number reads back as itself
+pub number_read : (w : List ℕ) (z : ℤ) → Some z ≡ number_in (number w) → read z ≡ z
+number_read w z e = whole z (number_fits (number w) z (number_small w) e)
 
-  module _ (e : meaning_in (number w) ≡ Below n) where
-    small : n < 1000000000
-    small = below_small (number w) n (number_small w) e
+whole_or : (m : Word) → unwrap_or (number_in m) no_number ≡ whole_of m
+unfolding number_in whole_of
+whole_or (good z) = refl
+whole_or bad = refl
 
-    pub minus_near : SFits w32 (pos n)
-    minus_near = record { sfits = omega (arith, small) }
-
-    minus : pos 0 -ℤ to_z w32 n ≡ whole_of (number w)
-    minus = rw (to_z_pos w32 {n = n} (omega (arith, small))) (whole_below (number w) n e)
-
-    pub minus_fits : SFits w32 (pos 0 -ℤ to_z w32 n)
-    minus_fits = rw minus (meant_fits (number w) (number_small w))
-
-    pub minus_is : to_z w32 (of_z w32 (pos 0 -ℤ to_z w32 n)) ≡ whole_of (number w)
-    minus_is = to_z-of_z minus_fits ∙ minus
+pub whole_meant : (w : List ℕ) {o : Option ℤ} {z : ℤ} → o ≡ number_in (number w) → z ≡ unwrap_or o no_number → read z ≡ whole_of (number w)
+whole_meant w {z = z} eo ez =
+    let same : z ≡ whole_of (number w) = ez ∙ rw eo (whole_or (number w)) in
+    ap read same ∙ whole (whole_of (number w)) (meant_fits (number w) (number_small w))

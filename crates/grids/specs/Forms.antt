@@ -1,5 +1,5 @@
 -- The one written form: lower-case names, single spaces, a line feed after each line, one row a line.
-use Rattle.std.specs.Prelude.{cond, List, [], ◌∷◌, ◌++◌, ℕ, suc, eqb, leb, ℤ, length}
+use Rattle.std.specs.Prelude.{Bool, cond, List, [], ◌∷◌, ◌++◌, ℕ, suc, eqb, leb, ℤ, length}
 use Rattle.words.specs.Digits.{digits, written, bytes}
 use Rattle.words.specs.Inches.{inches}
 use Rattle.grids.specs.Headers.{Header}
@@ -39,7 +39,11 @@ whole_form h cells = grid_form written h cells
 abbrev pub inches_form : Header → List ℕ → List ℕ
 inches_form h units = grid_form inches h units
 
--- whether a buffer of so many bytes takes them
+-- whether a buffer of so many bytes takes cells that pass by the no-data number
+abbrev pub form_verdict : {A : Type 0} → (ℤ → A → Bool) → (A → List ℕ) → Header → List A → ℕ → Verdict
+form_verdict passes form h xs room = judged h (passing (passes h.no_data) xs) (length xs) (leb (length (grid_form form h xs)) room)
+
+-- whether it takes whole numbers, and depths in inches
 unfoldable pub whole_verdict : Header → List ℤ → ℕ → Verdict
 whole_verdict h cells room = judged h (passing (cell_fits h.no_data) cells) (length cells) (leb (length (whole_form h cells)) room)
 

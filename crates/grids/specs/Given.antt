@@ -1,5 +1,5 @@
 -- The code's header as the paper's, and back: a text is the bytes before its count, and zeros stand after them.
-use Rattle.std.specs.Prelude.{cond, List, [], ◌≡◌, ℕ, ltb, ℤ, length, get_or, replicate}
+use Rattle.std.specs.Prelude.{cond, List, [], Result, Ok, Err, ◌≡◌, ℕ, ltb, ℤ, length, get_or, replicate}
 use Rattle.std.proofs.lemmas.List.Edits.{sets}
 use Rattle.theory.specs.Lists.{made}
 use Rattle.records.specs.Grids.{grid_as}
@@ -9,10 +9,7 @@ use Rattle.grids.specs.Measures.{most_characters}
 use Rattle.grids.specs.Reading.{header_read, cells_read, read_verdict}
 use Rattle.grids.specs.declared.measures.Measure.{Measure}
 use Rattle.grids.specs.declared.headers.Header.{Header}
-use Rattle.grids.specs.declared.reading.Read.{Read}
-use Rattle.grids.specs.declared.writing.Written.{Written}
-use Rattle.grids.specs.declared.judging.GridVerdict.{GridVerdict}
-use Rattle.grids.specs.declared.judging.GridVerdict.TheVariants.{Accepted, Refused}
+use Rattle.grids.specs.declared.judging.BadGrid.{BadGrid}
 
 -- a count past the bytes is no text's
 unfoldable pub text_as : Measure → List ℕ
@@ -41,18 +38,21 @@ header_in h =
       no_data = h.no_data;
     }
 
-abbrev pub verdict_as : GridVerdict → judging.Verdict
-verdict_as Accepted = judging.accepted
-verdict_as (Refused place) = judging.refused place
+-- what a call answers: what it gives where the grid is accepted, else the refusal's place
+abbrev pub verdict_as : {T : Type 0} → Result T BadGrid → judging.Verdict
+verdict_as (Ok x) = judging.accepted
+verdict_as (Err bad) = judging.refused bad.0
+
+unfoldable pub answer_in : {T : Type 0} → judging.Verdict → T → Result T BadGrid
+answer_in judging.accepted x = Ok x
+answer_in (judging.refused place) x = Err (record { 0 = place })
 
 -- what a call to read answers, and the lent cells after it: those of the grid at their front, or all as they were
-pub record Reads (text : List ℕ) (before after : List ℤ) (r : Read) : Type 0 where
-  pub verdict : verdict_as r.verdict ≡ read_verdict text (length before)
-  pub header : r.header ≡ header_in (judging.on_accepted (read_verdict text (length before)) (header_read text) paper.no_header)
+pub record Reads (text : List ℕ) (before after : List ℤ) (r : Result Header BadGrid) : Type 0 where
+  pub answer : r ≡ answer_in (read_verdict text (length before)) (header_in (header_read text))
   pub cells : after ≡ judging.on_accepted (read_verdict text (length before)) (sets before 0 (cells_read text)) before
 
 -- what a call to write answers, and the lent bytes after it: the form at their front, or all as they were
-pub record Writes (verdict : judging.Verdict) (form before after : List ℕ) (r : Written) : Type 0 where
-  pub judged : verdict_as r.verdict ≡ verdict
-  pub count : r.count ≡ judging.on_accepted verdict (length form) 0
+pub record Writes (verdict : judging.Verdict) (form before after : List ℕ) (r : Result ℕ BadGrid) : Type 0 where
+  pub answer : r ≡ answer_in verdict (length form)
   pub bytes : after ≡ judging.on_accepted verdict (sets before 0 form) before

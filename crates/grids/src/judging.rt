@@ -1,55 +1,48 @@
 // Refusal 12, of a grid that is read and of one that is written alike.
 ghost use Rattle.std.specs.Prelude.{◌≡◌};
-ghost use Rattle.grids.specs.Judging.{judged as judgedBy, grid_number, grid_place};
+ghost use Rattle.grids.specs.Judging.{judged as judgedBy, refused, grid_number, grid_place};
 ghost use Rattle.grids.specs.Given.{header_as, verdict_as};
 
 use crate::headers::Header;
 
-#[derive(Clone, Copy)]
-pub enum GridVerdict {
-    Accepted,
-    // At a cell, or at 0.
-    Refused(usize),
-}
+// A grid that is refused, at a cell or at 0.
+#[derive(Clone, Copy, Debug, PartialEq, Eq)]
+pub struct BadGrid(usize);
 
-const BAD_GRID: u32 = 12;
-
-impl GridVerdict {
-    // 0 where it accepts.
+impl BadGrid {
     #[tactic(auto, unfolding(crate::specs::Judging::grid_number))]
     pub fn number(self) -> u32
-        ensures { result ≡ grid_number (verdict_as self) }
+        ensures { result ≡ grid_number (refused self.0) }
     {
-        match self {
-            GridVerdict::Accepted => 0,
-            GridVerdict::Refused(_) => BAD_GRID,
-        }
+        12
     }
 
     #[tactic(auto, unfolding(crate::specs::Judging::grid_place))]
     pub fn place(self) -> usize
-        ensures { result ≡ grid_place (verdict_as self) }
+        ensures { result ≡ grid_place (refused self.0) }
     {
-        match self {
-            GridVerdict::Accepted => 0,
-            GridVerdict::Refused(place) => place,
-        }
+        self.0
     }
 }
 
 // By the header, the count of the cells before the first that is refused, the count of all, and whether the buffer is long enough.
-pub(crate) fn judged(header: Header, passing: usize, count: usize, enough: bool) -> GridVerdict
+pub(crate) fn judged(
+    header: Header,
+    passing: usize,
+    count: usize,
+    enough: bool,
+) -> Result<(), BadGrid>
     ensures { verdict_as result ≡ judgedBy (header_as header) passing count enough }
 {
     if !header.fits() {
-        return GridVerdict::Refused(0);
+        return Err(BadGrid(0));
     }
     if passing < count {
-        return GridVerdict::Refused(passing);
+        return Err(BadGrid(passing));
     }
     let grid = header.grid;
     if (count == grid.cells()) & enough {
-        return GridVerdict::Accepted;
+        return Ok(());
     }
-    GridVerdict::Refused(0)
+    Err(BadGrid(0))
 }

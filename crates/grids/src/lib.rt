@@ -12,7 +12,7 @@ mod writing;
 
 pub use cells::put_cell;
 pub use headers::Header;
-pub use judging::GridVerdict;
+pub use judging::BadGrid;
 pub use measures::{MOST_CHARACTERS, Measure};
-pub use reading::{Read, read_grid};
-pub use writing::{Written, write_grid, write_inches};
+pub use reading::read_grid;
+pub use writing::{write_grid, write_inches};

@@ -1,11 +1,10 @@
 // A corner or a cell size, kept as text.
-ghost use Rattle.std.specs.Prelude.{[], ◌≡◌, ◌≤◌, length, drop};
+ghost use Rattle.std.specs.Prelude.{[], ◌≡◌, ◌≤◌, length};
 ghost use Rattle.words.specs.Numbers.{all_digits};
-ghost use Rattle.words.specs.Writing.{Put};
 ghost use Rattle.grids.specs.Measures.{most_characters, is_digits, goes_on, is_unsigned, is_measure, measured};
 ghost use Rattle.grids.specs.Given.{text_as, measure_in};
 
-use words::{is_digit, put_byte, put_bytes};
+use words::{is_digit, put_bytes};
 
 // A text's most characters.
 pub const MOST_CHARACTERS: usize = 20;
@@ -17,66 +16,62 @@ pub struct Measure {
     pub count: usize,
 }
 
-fn all_digits(word: &[u8], from: usize) -> bool
-    ensures { result ≡ all_digits (drop from word.now) }
+fn all_digits(word: &[u8]) -> bool
+    ensures { result ≡ all_digits word.now }
 {
-    let mut i = from;
-    while i < word.len() {
-        if !is_digit(word[i]) {
+    for &b in word {
+        if !is_digit(b) {
             return false;
         }
-        i += 1;
     }
     true
 }
 
 // At least one.
-fn some_digits(word: &[u8], from: usize) -> bool
-    ensures { result ≡ is_digits (drop from word.now) }
+fn some_digits(word: &[u8]) -> bool
+    ensures { result ≡ is_digits word.now }
 {
-    (from < word.len()) & all_digits(word, from)
+    !word.is_empty() & all_digits(word)
 }
 
 // After a digit: digits to the end, or to a point with digits after it.
-fn goes_on(word: &[u8], from: usize) -> bool
-    ensures { result ≡ goes_on (drop from word.now) }
+fn goes_on(word: &[u8]) -> bool
+    ensures { result ≡ goes_on word.now }
 {
-    let mut i = from;
-    while i < word.len() {
+    for i in 0..word.len() {
         let b = word[i];
         if b == b'.' {
-            return some_digits(word, i + 1);
+            return some_digits(&word[i + 1..]);
         }
         if !is_digit(b) {
             return false;
         }
-        i += 1;
     }
     true
 }
 
-fn is_unsigned(word: &[u8], from: usize) -> bool
-    ensures { result ≡ is_unsigned (drop from word.now) }
+fn is_unsigned(word: &[u8]) -> bool
+    ensures { result ≡ is_unsigned word.now }
 {
-    if word.len() <= from {
+    let Some((first, rest)) = word.split_first() else {
         return false;
-    }
-    is_digit(word[from]) & goes_on(word, from + 1)
+    };
+    is_digit(*first) & goes_on(rest)
 }
 
 fn is_measure(word: &[u8]) -> bool
     ensures { result ≡ is_measure word.now }
 {
-    if word.len() == 0 {
+    let Some((first, rest)) = word.split_first() else {
         return false;
-    }
+    };
     if MOST_CHARACTERS < word.len() {
         return false;
     }
-    if word[0] == b'-' {
-        return is_unsigned(word, 1);
+    if *first == b'-' {
+        return is_unsigned(rest);
     }
-    is_unsigned(word, 0)
+    is_unsigned(word)
 }
 
 impl Measure {
@@ -111,28 +106,18 @@ impl Measure {
     }
 
     // The first `count` bytes; a count past them all is no text's.
-    pub(crate) fn put(self, buffer: &mut [u8], at: usize) -> usize
-        ensures { Put at (text_as self) buffer.old buffer.new result }
+    pub fn text(&self) -> &[u8]
+        ensures { result.now ≡ text_as self.now }
     {
-        let bytes = self.bytes;
-        let count = self.count;
-        let mut next = at;
-        if MOST_CHARACTERS < count {
-            return next;
+        match self.bytes.get(..self.count) {
+            Some(text) => text,
+            None => &[],
         }
-        let mut i = 0;
-        while i < count {
-            next = put_byte(buffer, next, bytes[i]);
-            i += 1;
-        }
-        next
     }
 
     pub(crate) fn fits(self) -> bool
         ensures { result ≡ is_measure (text_as self) }
     {
-        let mut text = [0u8; MOST_CHARACTERS];
-        let count = self.put(&mut text, 0);
-        is_measure(&text[..count])
+        is_measure(self.text())
     }
 }

@@ -9,7 +9,7 @@ ghost use Rattle.grids.specs.Spans.{WordAt};
 
 use crate::measures::Measure;
 use crate::wholes::whole;
-use words::{Meaning, Span, next_word, number};
+use words::{Span, next_word, number};
 
 // The small letters stand so far after the capitals.
 const TO_SMALL: u8 = 32;
@@ -30,12 +30,10 @@ fn is_name(word: &[u8], name: &[u8]) -> bool
     if word.len() != name.len() {
         return false;
     }
-    let mut i = 0;
-    while i < word.len() {
+    for i in 0..word.len() {
         if lower(word[i]) != name[i] {
             return false;
         }
-        i += 1;
     }
     true
 }
@@ -44,9 +42,8 @@ fn size(word: &[u8]) -> u32
     ensures { result ≡ size_of (number_of word.now) }
 {
     match number(word) {
-        Meaning::Plain(n) => n,
-        Meaning::Below(_) => 0,
-        Meaning::Bad => 0,
+        Some(n) if 0 <= n => n.unsigned_abs(),
+        _ => 0,
     }
 }
 
@@ -55,10 +52,8 @@ pub(crate) fn span_at(text: &[u8], k: usize) -> Span
     ensures { WordAt text.now k result.start result.end }
 {
     let mut word = next_word(text, 0);
-    let mut i = 0;
-    while i < k {
+    for _ in 0..k {
         word = next_word(text, word.end);
-        i += 1;
     }
     word
 }

@@ -8,17 +8,10 @@ ghost use Rattle.grids.specs.Given.{Reads};
 
 use crate::cells::cell_fits;
 use crate::headers::Header;
-use crate::judging::{GridVerdict, judged};
+use crate::judging::{BadGrid, judged};
 use crate::names::span_at;
 use crate::wholes::whole;
 use words::next_word;
-
-// The header of a refused grid is empty.
-#[derive(Clone, Copy)]
-pub struct Read {
-    pub verdict: GridVerdict,
-    pub header: Header,
-}
 
 // How many cells stand before the first that is refused, and how many in all.
 #[derive(Clone, Copy)]
@@ -59,6 +52,7 @@ fn scan(text: &[u8], from: usize, no_data: i32) -> Cells
     Cells { passing, count }
 }
 
+// The place goes along with the words, which no iterator gives.
 fn fill(text: &[u8], from: usize, cells: &mut [i32])
     requires { length (wholes (words (drop from text.now))) ≤ length cells.old }
     ensures { cells.new ≡ sets cells.old 0 (wholes (words (drop from text.now))) }
@@ -76,26 +70,14 @@ fn fill(text: &[u8], from: usize, cells: &mut [i32])
 }
 
 // The cells go to the front of the lent ones; of a refused grid none does.
-pub fn read_grid(text: &[u8], cells: &mut [i32]) -> Read
+pub fn read_grid(text: &[u8], cells: &mut [i32]) -> Result<Header, BadGrid>
     ensures { Reads text.now cells.old cells.new result }
 {
     let header = Header::in_text(text);
     let from = span_at(text, LAST_OF_HEADER).end;
     let found = scan(text, from, header.no_data);
-    let verdict = judged(
-        header,
-        found.passing,
-        found.count,
-        found.count <= cells.len(),
-    );
-    match verdict {
-        GridVerdict::Accepted => {
-            fill(text, from, cells);
-            Read { verdict, header }
-        }
-        GridVerdict::Refused(_) => Read {
-            verdict,
-            header: Header::none(),
-        },
-    }
+    let enough = found.count <= cells.len();
+    judged(header, found.passing, found.count, enough)?;
+    fill(text, from, cells);
+    Ok(header)
 }

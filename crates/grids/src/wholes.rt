@@ -6,7 +6,7 @@ ghost use Rattle.words.specs.Writing.{Wrote};
 ghost use Rattle.grids.specs.Headers.{whole_fits, whole_of};
 ghost use Rattle.grids.specs.Forms.{most_far, most_signed};
 
-use words::{Meaning, number, put_below, put_number};
+use words::{number, put_below, put_number};
 
 const LEAST_WHOLE: i32 = -999999999;
 
@@ -26,11 +26,7 @@ pub(crate) fn whole_fits(z: i32) -> bool
 pub(crate) fn whole(word: &[u8]) -> i32
     ensures { result ≡ whole_of (number_of word.now) }
 {
-    match number(word) {
-        Meaning::Plain(n) => n as i32,
-        Meaning::Below(n) => 0 - (n as i32),
-        Meaning::Bad => NO_NUMBER,
-    }
+    number(word).unwrap_or(NO_NUMBER)
 }
 
 // How far from zero.

@@ -2,22 +2,15 @@
 ghost use Rattle.std.specs.Prelude.{[], ◌∷◌, ◌++◌, ◌+◌, ◌*◌, length};
 ghost use Rattle.words.specs.Digits.{digits, written};
 ghost use Rattle.words.specs.Writing.{Put, Wrote};
-ghost use Rattle.grids.specs.Forms.{name_line, header_form, whole_form, inches_form, whole_verdict, inches_verdict, most_size, most_text, most_no_data, most_header, most_whole, most_depth};
+ghost use Rattle.grids.specs.Forms.{name_line, header_form, grid_form, whole_form, inches_form, form_verdict, whole_verdict, inches_verdict, most_size, most_text, most_no_data, most_header};
 ghost use Rattle.grids.specs.Given.{text_as, header_as, Writes};
 
-use crate::cells::{passing_cells, passing_depths, put_cell, put_cells, put_depths};
+use crate::cells::{Cell, passing, put_cell, put_rows};
 use crate::headers::Header;
-use crate::judging::{GridVerdict, judged};
+use crate::judging::{BadGrid, judged};
 use crate::measures::Measure;
 use records::{index_of, wide};
 use words::{put_byte, put_bytes, put_item};
-
-// How many bytes were written; of a refused grid none.
-#[derive(Clone, Copy)]
-pub struct Written {
-    pub verdict: GridVerdict,
-    pub count: usize,
-}
 
 // A name and the space after it.
 fn put_name(buffer: &mut [u8], at: usize, name: &[u8]) -> usize
@@ -38,7 +31,7 @@ fn put_measure(buffer: &mut [u8], at: usize, name: &[u8], measure: Measure) -> u
     ensures { Wrote (length name.now + most_text) at (name_line name.now (text_as measure)) buffer.old buffer.new result }
 {
     let value = put_name(buffer, at, name);
-    let end = measure.put(buffer, value);
+    let end = put_bytes(buffer, value, measure.text());
     put_byte(buffer, end, b'\n')
 }
 
@@ -65,52 +58,37 @@ fn put_header(buffer: &mut [u8], header: Header) -> usize
     put_no_data(buffer, e, b"nodata_value", no_data)
 }
 
-fn put_grid(buffer: &mut [u8], header: Header, cells: &[i32]) -> usize
-    ensures { Wrote (most_header + most_whole * length cells.now) 0 (whole_form (header_as header) cells.now) buffer.old buffer.new result }
+fn put_form<C: Cell>(buffer: &mut [u8], header: Header, cells: &[C]) -> usize
+    ensures { Wrote (most_header + C.most * length cells.now) 0 (grid_form C.form (header_as header) cells.now) buffer.old buffer.new result }
 {
     let grid = header.grid;
     let from = put_header(buffer, header);
-    put_cells(buffer, from, index_of(grid.width), cells)
+    put_rows(buffer, from, index_of(grid.width), cells)
 }
 
-fn put_sheet(buffer: &mut [u8], header: Header, units: &[u64]) -> usize
-    ensures { Wrote (most_header + most_depth * length units.now) 0 (inches_form (header_as header) units.now) buffer.old buffer.new result }
+// Where the cells would end is seen first, by writing them into nothing: a buffer that is too short stays as it was.
+fn write<C: Cell>(header: Header, cells: &[C], text: &mut [u8]) -> Result<usize, BadGrid>
+    ensures { Writes (form_verdict C.passes C.form (header_as header) cells.now (length text.old)) (grid_form C.form (header_as header) cells.now)
+        text.old text.new result }
 {
-    let grid = header.grid;
-    let from = put_header(buffer, header);
-    put_depths(buffer, from, index_of(grid.width), units)
+    let passing = passing(header.no_data, cells);
+    let end = put_form(&mut text[..0], header, cells);
+    judged(header, passing, cells.len(), end <= text.len())?;
+    Ok(put_form(text, header, cells))
 }
 
-// Whole numbers. Where they would end is seen first, by writing them into nothing: a buffer that is too short stays as it was.
-pub fn write_grid(header: Header, cells: &[i32], text: &mut [u8]) -> Written
+// Whole numbers; how many bytes were written.
+pub fn write_grid(header: Header, cells: &[i32], text: &mut [u8]) -> Result<usize, BadGrid>
     ensures { Writes (whole_verdict (header_as header) cells.now (length text.old)) (whole_form (header_as header) cells.now)
         text.old text.new result }
 {
-    let passing = passing_cells(header.no_data, cells);
-    let end = put_grid(&mut text[..0], header, cells);
-    let verdict = judged(header, passing, cells.len(), end <= text.len());
-    match verdict {
-        GridVerdict::Accepted => Written {
-            verdict,
-            count: put_grid(text, header, cells),
-        },
-        GridVerdict::Refused(_) => Written { verdict, count: 0 },
-    }
+    write(header, cells, text)
 }
 
-// Depths, in inches with four decimals.
-pub fn write_inches(header: Header, units: &[u64], text: &mut [u8]) -> Written
+// Depths, in inches with four decimals; how many bytes were written.
+pub fn write_inches(header: Header, units: &[u64], text: &mut [u8]) -> Result<usize, BadGrid>
     ensures { Writes (inches_verdict (header_as header) units.now (length text.old)) (inches_form (header_as header) units.now)
         text.old text.new result }
 {
-    let passing = passing_depths(header.no_data, units);
-    let end = put_sheet(&mut text[..0], header, units);
-    let verdict = judged(header, passing, units.len(), end <= text.len());
-    match verdict {
-        GridVerdict::Accepted => Written {
-            verdict,
-            count: put_sheet(text, header, units),
-        },
-        GridVerdict::Refused(_) => Written { verdict, count: 0 },
-    }
+    write(header, units, text)
 }

@@ -6,4 +6,4 @@ use Rattle.grids.proofs.writing.put_measure.Goals as goal
 
 pub returns : goal.returns
 returns c =
-    text_line _ _ (omega arith) (text_few c.args.measure) c.put_name-value.ensures c.put-end.ensures c.put_byte.ensures
+    text_line _ _ (omega arith) (text_few c.args.measure) c.put_name-value.ensures (rw c.text.ensures at c.put_bytes-end.ensures) c.put_byte.ensures
