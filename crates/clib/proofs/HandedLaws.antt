@@ -1,7 +1,7 @@
 -- The paper's answers as C gets them, number by number. A refused day writes memory, last serial and frost index as they were.
 use mathlib.Core.List.{List, [], ◌∷◌}
 use mathlib.Core.Path.{◌≡◌, refl, sym, ap, ◌∙◌}
-use Prim.Native.Nat.{ℕ, ◌<◌}
+use Prim.Native.Nat.{ℕ, ◌<◌, min}
 use native.Mathlib.Omega.{arith}
 use lib.Dec.{eqb}
 use lib.ListN.{length}
@@ -9,7 +9,7 @@ use borrow.Author.Tests.{eqb-true}
 use Rattle.theory.proofs.Cases.{by_cases, cond_true, cond_false}
 use Rattle.paper.specs.Setup.{Setup}
 use Rattle.paper.specs.State.{State, Day, Past, no_past, remembered, fresh_state}
-use Rattle.paper.specs.Refusals.{Verdict, accepted, refused, verdict_place}
+use Rattle.paper.specs.Refusals.{Verdict, accepted, refused, verdict_number, verdict_place}
 use Rattle.paper.specs.Day.{Fresh, fresh_as, fresh_of, Outcome, Results, verdict_of, outcome_as, next_state, day_of}
 use Rattle.paper.proofs.DayLaws.{sound_day, kept_frost}
 use Rattle.records.specs.declared.grids.Grid.{Grid}
@@ -18,7 +18,7 @@ use Rattle.records.specs.Grids.{grid_as, climate_as, setup_as}
 use Rattle.clib.specs.declared.given.Site.{Site}
 use Rattle.clib.specs.Given.{grid_from, climate_from, setup_from}
 use Rattle.clib.specs.Narrow.{narrow, NarrowMemory, Narrow}
-use Rattle.clib.specs.Numbers.{returned, memory_from, memory_list, no_serial, last_from, last_number, past_from, totals_list}
+use Rattle.clib.specs.Numbers.{returned, told, memory_from, memory_list, no_serial, last_from, last_number, past_from, totals_list}
 use Rattle.clib.specs.Handed.{Stores, stores_from, state_from, stores_of, begun, begun_as, fresh_gives, handed, handed_as, day_gives}
 use Rattle.clib.proofs.PlaceLaws.{setup_near, day_near, near_fits}
 
@@ -60,6 +60,23 @@ pub stores_back : (l : Stores) → length l.memory ≡ 5 → stores_of (state_fr
 unfolding stores_of state_from past_from
 stores_back l five = λ k. stores_from l.soil l.snow (memory_back l.memory five k) (last_back l.last k) l.frost
 
+-- a place that fits 32 bits is told as it is
+pub told_near : (v : Verdict) → verdict_place v < narrow → told v ≡ returned v
+unfolding told returned
+told_near v near = let same : min (verdict_place v) 4294967295 ≡ verdict_place v = omega (arith, near) in rw same refl
+
+-- nothing is refused
+pub none_returned : 0 ≡ returned accepted
+unfolding returned verdict_number verdict_place
+none_returned = refl
+
+pub none_narrow : Narrow no_past
+none_narrow =
+    record {
+      memory = record { oldest = omega arith; fourth = omega arith; third = omega arith; second = omega arith; yesterday = omega arith };
+      frost = omega arith;
+    }
+
 -- a fresh state
 module _ (s : Setup) (soil snow : List ℕ) where
   fresh_verdict : (v : Verdict) → (fresh_as s soil snow v).verdict ≡ v
@@ -79,11 +96,7 @@ module _ (s : Setup) (soil snow : List ℕ) where
   pub fresh_narrow : {o : Fresh} → o ≡ fresh_of s soil snow → Narrow o.state.past
   unfolding fresh_of
   fresh_narrow e =
-      rw (ap (λ (o : Fresh). o.state.past) e ∙ fresh_past _)
-      (record {
-        memory = record { oldest = omega arith; fourth = omega arith; third = omega arith; second = omega arith; yesterday = omega arith };
-        frost = omega arith;
-      })
+      rw (ap (λ (o : Fresh). o.state.past) e ∙ fresh_past _) none_narrow
 
 pub fresh_handed : (s : Setup) (soil snow : List ℕ) {t : Setup} {o : Fresh} → o ≡ fresh_of t soil snow → t ≡ s
     → {number : ℕ} → number ≡ returned o.verdict

@@ -1,11 +1,13 @@
 -- Grids as C hands them over and gets them: what the calls return, and what they write.
-use Rattle.std.specs.Prelude.{List, [], ◌∷◌, ◌≡◌, ℕ, min, ℤ, length, get_or, replicate}
+use Rattle.std.specs.Prelude.{List, [], ◌∷◌, ◌≡◌, ℕ, min, ℤ, length, get_or, replicate, Result, Ok, Err}
 use Rattle.std.proofs.lemmas.List.Edits.{sets}
 use Rattle.grids.specs.Measures.{most_characters}
 use Rattle.grids.specs.Headers.{Header, no_header}
 use Rattle.grids.specs.Judging.{Verdict, grid_number, grid_place, on_accepted}
 use Rattle.grids.specs.Reading.{header_read, cells_read, read_verdict}
 use Rattle.grids.specs.Given.{text_as}
+use Rattle.grids.specs.declared.headers.Header as code
+use Rattle.grids.specs.declared.judging.BadGrid.{BadGrid}
 use Rattle.clib.specs.Numbers.{numbered}
 
 -- a place that 32 bits do not hold is told as the last that they do
@@ -31,6 +33,12 @@ header_lent h =
     lent (h.grid.width ∷ h.grid.height ∷ length h.x_corner ∷ length h.y_corner ∷ length h.cell_size ∷ []) h.no_data (padded h.x_corner)
     (padded h.y_corner) (padded h.cell_size)
 
+-- as the code writes a header of its own
+unfoldable pub header_kept : code.Header → Lent
+header_kept h =
+    lent (h.grid.width ∷ h.grid.height ∷ min h.x_corner.count 21 ∷ min h.y_corner.count 21 ∷ min h.cell_size.count 21 ∷ []) h.no_data
+    h.x_corner.bytes h.y_corner.bytes h.cell_size.bytes
+
 -- and back: a length past the bytes is no text's
 unfoldable pub header_from : List ℕ → ℤ → List ℕ → List ℕ → List ℕ → Header
 header_from numbers no_data x_corner y_corner cell_size =
@@ -46,6 +54,11 @@ pub record GridRead (text : List ℕ) (before after : List ℤ) (numbers : List 
   pub returned : r ≡ grid_returned (read_verdict text (length before))
   pub header : lent numbers no_data x_corner y_corner cell_size ≡ header_lent (on_accepted (read_verdict text (length before)) (header_read text) no_header)
   pub cells : after ≡ on_accepted (read_verdict text (length before)) (sets before 0 (cells_read text)) before
+
+-- how many bytes a call to write tells
+abbrev pub count_told : Result ℕ BadGrid → ℕ
+count_told (Ok count) = count
+count_told (Err why) = 0
 
 pub record GridWritten (verdict : Verdict) (form before after : List ℕ) (count r : ℕ) : Type 0 where
   pub returned : r ≡ grid_returned verdict

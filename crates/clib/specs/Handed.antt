@@ -1,7 +1,7 @@
 -- The fresh state and the day as C sees them: the returned number, and all that was lent at the end.
-use Rattle.std.specs.Prelude.{List, ℕ}
+use Rattle.std.specs.Prelude.{List, ◌≡◌, ℕ}
 use Rattle.paper.specs.Setup.{Setup}
-use Rattle.paper.specs.State.{State, Day}
+use Rattle.paper.specs.State.{State, Day, Past}
 use Rattle.paper.specs.Day as paper
 use Rattle.clib.specs.Numbers.{returned, memory_list, last_number, past_from, totals_list}
 
@@ -21,6 +21,12 @@ state_from l = record { soil = l.soil; snow = l.snow; past = past_from l.memory 
 
 unfoldable pub stores_of : State → Stores
 stores_of st = stores_from st.soil st.snow (memory_list st.past.memory) (last_number st.past.last) st.past.frost
+
+-- a past as it is written back
+pub record Kept (p : Past) (memory : List ℕ) (last frost : ℕ) : Type 0 where
+  pub memory_is : memory ≡ memory_list p.memory
+  pub last_is : last ≡ last_number p.last
+  pub frost_is : frost ≡ p.frost
 
 -- what a fresh state's call hands back
 pub record Begun : Type 0 where

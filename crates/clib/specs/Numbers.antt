@@ -1,5 +1,5 @@
 -- What C hands over and gets as the paper's verdict, past and totals.
-use Rattle.std.specs.Prelude.{cond, List, [], ◌∷◌, ℕ, ◌+◌, ◌*◌, eqb, get_or}
+use Rattle.std.specs.Prelude.{cond, List, [], ◌∷◌, ℕ, ◌+◌, ◌*◌, eqb, get_or, min}
 use Rattle.paper.specs.State.{Memory, Last, none, serial, Past}
 use Rattle.paper.specs.Refusals.{Verdict, verdict_number, verdict_place}
 use Rattle.paper.specs.Day.{Totals}
@@ -10,6 +10,10 @@ numbered number place = number * 4294967296 + place
 
 unfoldable pub returned : Verdict → ℕ
 returned v = numbered (verdict_number v) (verdict_place v)
+
+-- as the code has it: a place that 32 bits do not hold, which no test gives, is told as the last that they do
+unfoldable pub told : Verdict → ℕ
+told v = numbered (verdict_number v) (min (verdict_place v) 4294967295)
 
 -- five figures, oldest first
 unfoldable pub memory_from : List ℕ → Memory

@@ -6,8 +6,9 @@ ghost use Rattle.clib.specs.Given.{setup_from, day_from};
 ghost use Rattle.clib.specs.Handed.{stores_from, results_from, begun, fresh_gives, handed, day_gives};
 
 use crate::given::{DayNumbers, Site, climate_of, grid_of, record_of};
-use crate::numbers::returned_as;
-use crate::state::{figures_of, index_kept, memory_kept, past_from, serial_kept};
+use crate::numbers::{refused_as, returned_as};
+use crate::state::{figures_of, keep, past_from};
+use records::Past;
 
 pub fn recharge_check(
     site: Site,
@@ -44,15 +45,19 @@ pub fn recharge_fresh(
 {
     let grid = grid_of(site);
     let climate = climate_of(site);
-    let start = recharge::fresh(
+    let fresh = recharge::fresh(
         grid, climate, covers, direction, cover, group, available, soil, snow,
     );
-    let past = start.past;
-    *memory = memory_kept(past);
-    *last_serial = serial_kept(past);
-    *frost_index = index_kept(past);
-    let verdict = start.verdict;
-    returned_as(verdict)
+    match fresh {
+        Ok(past) => {
+            keep(past, memory, last_serial, frost_index);
+            0
+        }
+        Err(why) => {
+            keep(Past::none(), memory, last_serial, frost_index);
+            refused_as(why)
+        }
+    }
 }
 
 pub fn recharge_day(
@@ -85,7 +90,7 @@ pub fn recharge_day(
 {
     let grid = grid_of(site);
     let climate = climate_of(site);
-    let past = past_from(memory, *last_serial, *frost_index);
+    let mut past = past_from(memory, *last_serial, *frost_index);
     let answer = recharge::day(
         grid,
         climate,
@@ -101,14 +106,18 @@ pub fn recharge_day(
         evapotranspired,
         recharged,
         rejected,
-        past,
+        &mut past,
         record_of(day),
     );
-    let kept = answer.past;
-    *memory = memory_kept(kept);
-    *last_serial = serial_kept(kept);
-    *frost_index = index_kept(kept);
-    *totals = figures_of(answer.totals);
-    let verdict = answer.verdict;
-    returned_as(verdict)
+    keep(past, memory, last_serial, frost_index);
+    match answer {
+        Ok(sums) => {
+            *totals = figures_of(sums);
+            0
+        }
+        Err(why) => {
+            *totals = [0; 7];
+            refused_as(why)
+        }
+    }
 }

@@ -15,5 +15,6 @@ pub use calls::{recharge_check, recharge_day, recharge_fresh};
 pub use estimates::{recharge_jensen_haise, recharge_turc};
 pub use given::{DayNumbers, Site, climate_of, grid_of};
 pub use maps::{recharge_grid_inches, recharge_grid_read, recharge_grid_write};
+pub use numbers::returned_as;
 pub use texts::recharge_text;
 pub use whys::recharge_why;

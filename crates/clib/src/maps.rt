@@ -1,36 +1,78 @@
 // Arc ASCII grids for C: a header's numbers and its three texts lie in lent arrays.
 ghost use Rattle.std.specs.Prelude.{◌≡◌, min, length};
 ghost use Rattle.grids.specs.Forms.{whole_form, inches_form, whole_verdict, inches_verdict};
+ghost use Rattle.grids.specs.Judging.{refused};
 ghost use Rattle.grids.specs.Given.{verdict_as, header_as};
-ghost use Rattle.clib.specs.Grids.{grid_returned, header_from, GridRead, GridWritten};
+ghost use Rattle.clib.specs.Grids.{grid_returned, header_from, lent, header_kept, count_told, GridRead, GridWritten};
 
 use crate::numbers::numbered;
-use grids::{GridVerdict, Header, Measure};
+use grids::{BadGrid, Header, Measure};
 use records::{Grid, index_of};
-
-// The last place that 32 bits hold; a bad cell from there on is told as this one.
-const LAST_PLACE: usize = 4294967295;
 
 // A count that no text has.
 const NO_TEXT: usize = 21;
 
-fn grid_returned(verdict: GridVerdict) -> u64
-    ensures { result ≡ grid_returned (verdict_as verdict) }
+#[tactic(auto, unfolding(crate::specs::Grids::grid_returned))]
+fn refused_as(why: BadGrid) -> u64
+    ensures { result ≡ grid_returned (refused why.0) }
 {
-    let place = verdict.place();
-    if LAST_PLACE < place {
-        return numbered(verdict.number(), LAST_PLACE);
-    }
-    numbered(verdict.number(), place)
+    numbered(why.number(), why.place())
 }
 
 fn count_of(measure: Measure) -> u32
     ensures { result ≡ min measure.count 21 }
 {
-    if NO_TEXT < measure.count {
-        return NO_TEXT as u32;
+    measure.count.min(NO_TEXT) as u32
+}
+
+// Writes a header's numbers and texts where C lent room for them.
+#[tactic(auto, unfolding(crate::specs::Grids::header_kept))]
+fn keep(
+    header: Header,
+    numbers: &mut [u32; 5],
+    no_data: &mut i32,
+    x_corner: &mut [u8; 20],
+    y_corner: &mut [u8; 20],
+    cell_size: &mut [u8; 20],
+)
+    ensures { lent numbers.new no_data.new x_corner.new y_corner.new cell_size.new ≡ header_kept header }
+{
+    let grid = header.grid;
+    let x = header.x_corner;
+    let y = header.y_corner;
+    let cell = header.cell_size;
+    let value = header.no_data;
+    *numbers = [
+        grid.width,
+        grid.height,
+        count_of(x),
+        count_of(y),
+        count_of(cell),
+    ];
+    *no_data = value;
+    let x_bytes = x.bytes;
+    let y_bytes = y.bytes;
+    let cell_bytes = cell.bytes;
+    *x_corner = x_bytes;
+    *y_corner = y_bytes;
+    *cell_size = cell_bytes;
+}
+
+// What a call to write returns, and how many bytes it wrote.
+#[tactic(auto, unfolding(crate::specs::Grids::grid_returned, grids::specs::Judging::grid_number, grids::specs::Judging::grid_place))]
+fn told(answer: Result<usize, BadGrid>, written: &mut u64) -> u64
+    ensures { (written.new ≡ count_told answer) × (result ≡ grid_returned (verdict_as answer)) }
+{
+    match answer {
+        Ok(count) => {
+            *written = count as u64;
+            0
+        }
+        Err(why) => {
+            *written = 0;
+            refused_as(why)
+        }
     }
-    measure.count as u32
 }
 
 fn header_from(
@@ -81,29 +123,23 @@ pub fn recharge_grid_read(
     ensures { GridRead text.now cells.old cells.new numbers.new no_data.new
         x_corner.new y_corner.new cell_size.new result }
 {
-    let read = grids::read_grid(text, cells);
-    let header = read.header;
-    let grid = header.grid;
-    let x = header.x_corner;
-    let y = header.y_corner;
-    let cell = header.cell_size;
-    let value = header.no_data;
-    *numbers = [
-        grid.width,
-        grid.height,
-        count_of(x),
-        count_of(y),
-        count_of(cell),
-    ];
-    *no_data = value;
-    let x_bytes = x.bytes;
-    let y_bytes = y.bytes;
-    let cell_bytes = cell.bytes;
-    *x_corner = x_bytes;
-    *y_corner = y_bytes;
-    *cell_size = cell_bytes;
-    let verdict = read.verdict;
-    grid_returned(verdict)
+    match grids::read_grid(text, cells) {
+        Ok(header) => {
+            keep(header, numbers, no_data, x_corner, y_corner, cell_size);
+            0
+        }
+        Err(why) => {
+            keep(
+                Header::none(),
+                numbers,
+                no_data,
+                x_corner,
+                y_corner,
+                cell_size,
+            );
+            refused_as(why)
+        }
+    }
 }
 
 pub fn recharge_grid_write(
@@ -122,10 +158,7 @@ pub fn recharge_grid_write(
         text.old text.new written.new result }
 {
     let header = header_from(numbers, no_data, x_corner, y_corner, cell_size);
-    let answer = grids::write_grid(header, cells, text);
-    *written = answer.count as u64;
-    let verdict = answer.verdict;
-    grid_returned(verdict)
+    told(grids::write_grid(header, cells, text), written)
 }
 
 pub fn recharge_grid_inches(
@@ -144,8 +177,5 @@ pub fn recharge_grid_inches(
         text.old text.new written.new result }
 {
     let header = header_from(numbers, no_data, x_corner, y_corner, cell_size);
-    let answer = grids::write_inches(header, units, text);
-    *written = answer.count as u64;
-    let verdict = answer.verdict;
-    grid_returned(verdict)
+    told(grids::write_inches(header, units, text), written)
 }

@@ -4,6 +4,7 @@ ghost use Rattle.records.specs.Past.{memory_as, last_as, past_as};
 ghost use Rattle.records.specs.Answers.{totals_as};
 ghost use Rattle.clib.specs.Numbers.{memory_from, memory_list, last_from, last_number, past_from, totals_list};
 ghost use Rattle.clib.specs.Narrow.{NarrowMemory, Narrow};
+ghost use Rattle.clib.specs.Handed.{Kept};
 
 use crate::numbers::{depth, index};
 use records::{Memory, Past, Totals};
@@ -46,7 +47,7 @@ pub(crate) fn past_from(memory: &[u32; 5], last_serial: u32, frost_index: u32) -
 }
 
 #[tactic(auto, unfolding(crate::specs::Numbers::memory_list))]
-pub(crate) fn memory_kept(kept: Past) -> [u32; 5]
+fn memory_kept(kept: Past) -> [u32; 5]
     requires { Narrow (past_as kept) }
     ensures { result ≡ memory_list (memory_as kept.memory) }
 {
@@ -66,7 +67,7 @@ pub(crate) fn memory_kept(kept: Past) -> [u32; 5]
 }
 
 #[tactic(auto, unfolding(crate::specs::Numbers::last_number))]
-pub(crate) fn serial_kept(kept: Past) -> u32
+fn serial_kept(kept: Past) -> u32
     ensures { result ≡ last_number (last_as kept.last) }
 {
     let last = kept.last;
@@ -76,12 +77,22 @@ pub(crate) fn serial_kept(kept: Past) -> u32
     }
 }
 
-pub(crate) fn index_kept(kept: Past) -> u32
+fn index_kept(kept: Past) -> u32
     requires { Narrow (past_as kept) }
     ensures { result ≡ kept.frost.0 }
 {
     let index = kept.frost.0;
     index as u32
+}
+
+// Writes them where C lent room for them.
+pub(crate) fn keep(past: Past, memory: &mut [u32; 5], last_serial: &mut u32, frost_index: &mut u32)
+    requires { Narrow (past_as past) }
+    ensures { Kept (past_as past) memory.new last_serial.new frost_index.new }
+{
+    *memory = memory_kept(past);
+    *last_serial = serial_kept(past);
+    *frost_index = index_kept(past);
 }
 
 // In the paper's order.

@@ -1,25 +1,25 @@
 // Why a cell got its figures, for C.
 ghost use Rattle.std.specs.Prelude.{◌≡◌};
 ghost use Rattle.paper.specs.Reasons.{why_of};
-ghost use Rattle.reasons.specs.Whys.{why_as};
+ghost use Rattle.reasons.specs.Whys.{because_as};
 ghost use Rattle.clib.specs.Given.{setup_from, day_from};
 ghost use Rattle.clib.specs.Handed.{stores_from, state_from};
 ghost use Rattle.clib.specs.Whys.{reason_list, explained, reason_given};
 
 use crate::given::{DayNumbers, Site, climate_of, grid_of, record_of};
-use crate::numbers::returned_as;
+use crate::numbers::refused_as;
 use crate::state::past_from;
 use reasons::Why;
 use records::{index_of, wide};
 
-// The reason's number and its two depths; zeros where there is none.
-#[tactic(auto, unfolding(crate::specs::Whys::reason_list))]
+// The reason's number and its two depths.
+#[tactic(auto, unfolding(crate::specs::Whys::reason_list, reasons::specs::Whys::why_number, reasons::specs::Whys::first_depth, reasons::specs::Whys::second_depth))]
 fn told(why: Why) -> [u64; 3]
-    ensures { result ≡ reason_list (why_as why) }
+    ensures { result ≡ reason_list (because_as why) }
 {
-    let first = why.first().0;
-    let second = why.second().0;
-    [wide(why.number()), first, second]
+    let first = why.first.0;
+    let second = why.second.0;
+    [wide(why.reason.number()), first, second]
 }
 
 pub fn recharge_why(
@@ -59,6 +59,14 @@ pub fn recharge_why(
         record_of(day),
         index_of(cell),
     );
-    *reason = told(why);
-    returned_as(why.verdict())
+    match why {
+        Ok(why) => {
+            *reason = told(why);
+            0
+        }
+        Err(why) => {
+            *reason = [0; 3];
+            refused_as(why)
+        }
+    }
 }

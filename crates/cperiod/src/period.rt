@@ -1,24 +1,8 @@
 // A list of days in one call, from the fresh state.
-ghost use Rattle.std.specs.Prelude.{◌≡◌, ◌<◌};
-ghost use Rattle.paper.specs.Refusals.{verdict_place};
-ghost use Rattle.records.specs.Verdicts.{verdict_as};
 ghost use Rattle.clib.specs.Given.{setup_from};
-ghost use Rattle.clib.specs.Narrow.{narrow};
-ghost use Rattle.clib.specs.Numbers.{returned};
 ghost use Rattle.cperiod.specs.Period.{PeriodGiven};
 
-use clib::{Site, climate_of, grid_of};
-use records::{Refusal, wide};
-
-const NUMBER: u64 = 4294967296;
-
-// As every call for C returns it: 0 where it accepts, else the refusal's number × 2^32 + its place.
-fn returned_as(verdict: Result<(), Refusal>) -> u64
-    requires { verdict_place (verdict_as verdict) < narrow }
-    ensures { result ≡ returned (verdict_as verdict) }
-{
-    wide(verdict.number()) * NUMBER + verdict.place() as u64
-}
+use clib::{Site, climate_of, grid_of, returned_as};
 
 pub fn recharge_period(
     site: Site,

@@ -3,15 +3,17 @@
 -- or within its limit.
 use Rattle.paper.specs.Setup.{Setup}
 use Rattle.paper.specs.State.{State, Day}
-use Rattle.paper.specs.Day.{Results, Outcome}
+use Rattle.std.proofs.Common.{◌≡◌, refl, ◌∙◌}
+use Rattle.paper.specs.Day.{Results, Outcome, day_of}
 use Rattle.records.specs.Grids.{setup_as}
 use Rattle.records.specs.Past.{past_as, state_as}
 use Rattle.records.specs.Days.{day_as}
-use Rattle.records.specs.Answers.{outcome_as}
+use Rattle.records.proofs.AnswerLaws.{told, told_is}
 use Rattle.clib.specs.Given.{setup_from, day_from}
 use Rattle.clib.specs.Narrow.{Narrow}
+use Rattle.clib.specs.Numbers.{totals_list}
 use Rattle.clib.specs.Handed.{Stores, stores_from, results_from}
-use Rattle.clib.proofs.HandedLaws.{same_setup, day_placed, day_narrow, day_handed}
+use Rattle.clib.proofs.HandedLaws.{same_setup, told_near, none_returned, day_placed, day_narrow, day_handed}
 use Rattle.clib.proofs.calls.recharge_day.Goals.{After-day-answer}
 use Rattle.clib.proofs.calls.recharge_day.Goals as goal
 
@@ -42,31 +44,38 @@ module _ (c : goal.After-day-answer) where
   abbrev answered : Outcome
   answered =
       let new = c.day-answer.new in
-      outcome_as c.day-answer.result new.soil new.snow
+      told c.day-answer.result new.soil new.snow new.past
       (results_from new.intercepted new.outflow new.evapotranspired new.recharged new.rejected)
+
+  by_rules : answered ≡ day_of handed_setup handed_state the_results handed_day
+  by_rules = told_is _ _ _ _ _ ∙ c.day-answer.ensures
 
   narrow_past : Narrow answered.state.past
   narrow_past =
-      day_narrow handed_setup handed_state the_results handed_day {o = answered} c.day-answer.ensures
+      day_narrow handed_setup handed_state the_results handed_day {o = answered} by_rules
       c.past_from-past.ensures.1 c.record_of.ensures.1
 
-pub memory_kept-requires : goal.memory_kept-requires
-memory_kept-requires c = narrow_past (goal.at.memory_kept-requires c).After-day-answer
+pub keep-requires : goal.keep-requires
+keep-requires c = narrow_past (goal.at.keep-requires c).After-day-answer
 
-pub index_kept-requires : goal.index_kept-requires
-index_kept-requires c = narrow_past (goal.at.index_kept-requires c).After-day-answer
-
-pub returned_as-requires : goal.returned_as-requires
-returned_as-requires c =
-    let day = (goal.at.returned_as-requires c).After-day-answer in
-    day_placed (handed_setup day) (handed_state day) (the_results day) (handed_day day) {o = answered day} c.day-answer.ensures
-
-pub returns : goal.returns
-returns c =
-    let day = (goal.at.returns c).After-day-answer in
+pub returns-in-Ok : goal.returns-in-Ok
+returns-in-Ok c =
+    let day = (goal.at.returns-in-Ok c).After-day-answer in
+    let kept = c.keep.ensures in
     day_handed (the_setup day) (the_stores day) (the_results day) (day_from c.args.day)
-    {t = handed_setup day} {p = past_as c.past_from-past.result} {z = handed_day day} {o = answered day} c.day-answer.ensures
+    {t = handed_setup day} {p = past_as c.past_from-past.result} {z = handed_day day} {o = answered day} (by_rules day)
     (same_setup _ _ _ c.grid_of-grid.ensures c.climate_of-climate.ensures _ _ _ _ _)
-    c.record_of.ensures.0 c.past_from-past.ensures.0 c.returned_as.ensures
-    c.memory_kept.ensures c.serial_kept.ensures
-    c.index_kept.ensures c.figures_of.ensures
+    c.record_of.ensures.0 c.past_from-past.ensures.0 (rw c.in-Ok.is none_returned)
+    kept.memory_is kept.last_is kept.frost_is (rw c.in-Ok.is c.figures_of.ensures)
+
+pub returns-in-Err : goal.returns-in-Err
+unfolding totals_list
+returns-in-Err c =
+    let day = (goal.at.returns-in-Err c).After-day-answer in
+    let kept = c.keep.ensures in
+    let near = rw c.in-Err.is at (day_placed (handed_setup day) (handed_state day) (the_results day) (handed_day day) {o = answered day} (by_rules day)) in
+    day_handed (the_setup day) (the_stores day) (the_results day) (day_from c.args.day)
+    {t = handed_setup day} {p = past_as c.past_from-past.result} {z = handed_day day} {o = answered day} (by_rules day)
+    (same_setup _ _ _ c.grid_of-grid.ensures c.climate_of-climate.ensures _ _ _ _ _)
+    c.record_of.ensures.0 c.past_from-past.ensures.0 (rw c.in-Err.is (c.refused_as.ensures ∙ told_near _ near))
+    kept.memory_is kept.last_is kept.frost_is (rw c.in-Err.is refl)

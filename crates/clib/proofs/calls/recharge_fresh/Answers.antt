@@ -1,17 +1,27 @@
 -- `calls::recharge_fresh` meets its contract: the library's answer is the paper's, whose past is that of a fresh state, and it is written as C's numbers.
-use Rattle.clib.proofs.HandedLaws.{same_setup, fresh_near, fresh_narrow, fresh_handed}
+use Rattle.std.proofs.Common.{ap, ◌∙◌}
+use Rattle.paper.specs.State.{Past}
+use Rattle.clib.specs.Numbers.{memory_list, last_number}
+use Rattle.clib.proofs.HandedLaws.{same_setup, told_near, none_returned, none_narrow, fresh_near, fresh_narrow, fresh_handed}
 use Rattle.clib.proofs.calls.recharge_fresh.Goals as goal
 
-pub memory_kept-requires : goal.memory_kept-requires
-memory_kept-requires c = fresh_narrow _ _ _ c.fresh-start.ensures
+pub keep-requires : goal.keep-requires
+keep-requires c = fresh_narrow _ _ _ (rw c.in-Ok.is at c.fresh-fresh.ensures)
 
-pub index_kept-requires : goal.index_kept-requires
-index_kept-requires c = fresh_narrow _ _ _ c.fresh-start.ensures
+pub keep-requires-in-Err : goal.keep-requires-in-Err
+keep-requires-in-Err c = rw c.none.ensures none_narrow
 
-pub returned_as-requires : goal.returned_as-requires
-returned_as-requires c = fresh_near _ _ _ c.fresh-start.ensures
+pub returns-in-Ok : goal.returns-in-Ok
+returns-in-Ok c =
+    let kept = c.keep.ensures in
+    fresh_handed _ _ _ (rw c.in-Ok.is at c.fresh-fresh.ensures) (same_setup _ _ _ c.grid_of-grid.ensures c.climate_of-climate.ensures _ _ _ _ _)
+    none_returned kept.memory_is kept.last_is kept.frost_is
 
-pub returns : goal.returns
-returns c =
-    fresh_handed _ _ _ c.fresh-start.ensures (same_setup _ _ _ c.grid_of-grid.ensures c.climate_of-climate.ensures _ _ _ _ _)
-    c.returned_as.ensures c.memory_kept.ensures c.serial_kept.ensures c.index_kept.ensures
+pub returns-in-Err : goal.returns-in-Err
+returns-in-Err c =
+    let kept = c.keep-in-Err.ensures in
+    let none = c.none.ensures in
+    let fresh = rw c.in-Err.is at c.fresh-fresh.ensures in
+    fresh_handed _ _ _ fresh (same_setup _ _ _ c.grid_of-grid.ensures c.climate_of-climate.ensures _ _ _ _ _)
+    (c.refused_as.ensures ∙ told_near _ (fresh_near _ _ _ fresh)) (kept.memory_is ∙ ap (λ (p : Past). memory_list p.memory) none)
+    (kept.last_is ∙ ap (λ (p : Past). last_number p.last) none) (kept.frost_is ∙ ap (λ (p : Past). p.frost) none)

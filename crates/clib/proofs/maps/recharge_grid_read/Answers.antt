@@ -1,9 +1,12 @@
--- `recharge_grid_read` meets its contract: the header is lent number by number and text by text.
-use Rattle.std.proofs.Common.{arith}
-use Rattle.grids.proofs.WholeLaws.{whole}
-use Rattle.clib.proofs.GridLaws.{grid_read}
+-- `recharge_grid_read` meets its contract: the header is lent number by number and text by text, the empty one where the grid is refused.
+use Rattle.std.proofs.Common.{refl, ap, ◌∙◌}
+use Rattle.clib.specs.Grids.{header_kept}
+use Rattle.clib.proofs.GridLaws.{read_whole, read_refused}
 use Rattle.clib.proofs.maps.recharge_grid_read.Goals as goal
 
-pub returns : goal.returns
-returns c =
-    grid_read _ _ _ _ _ _ _ _ _ c.read_grid-read.ensures (whole _ (record { sfits = omega arith })) c.count_of.ensures c.count_of-2.ensures c.count_of-3.ensures c.grid_returned.ensures
+pub returns-in-Ok : goal.returns-in-Ok
+returns-in-Ok c = read_whole _ _ _ _ _ _ _ _ _ _ (rw c.in-Ok.is at c.read_grid.ensures) c.keep.ensures refl
+
+pub returns-in-Err : goal.returns-in-Err
+returns-in-Err c =
+    read_refused _ _ _ _ _ _ _ _ _ _ (rw c.in-Err.is at c.read_grid.ensures) (c.keep-in-Err.ensures ∙ ap header_kept c.none.ensures) c.refused_as.ensures

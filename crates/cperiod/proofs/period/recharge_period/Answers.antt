@@ -1,11 +1,8 @@
 -- `period::recharge_period` meets its contract: the library is handed what C lent, and its answer is told as C's numbers.
-use Rattle.std.proofs.Common.{refl}
-use Rattle.clib.proofs.HandedLaws.{same_setup}
+use Rattle.std.proofs.Common.{refl, ◌∙◌}
+use Rattle.clib.proofs.HandedLaws.{same_setup, told_near}
 use Rattle.cperiod.proofs.PeriodLaws.{period_near, period_handed}
 use Rattle.cperiod.proofs.period.recharge_period.Goals as goal
-
-pub returned_as-requires : goal.returned_as-requires
-returned_as-requires c = period_near _ _ _ _ _ _ _ _ _ _ _ c.period-ended.ensures
 
 pub returns : goal.returns
 returns c =
@@ -14,6 +11,6 @@ returns c =
       is =
           period_handed _ _ (same_setup _ _ _ c.grid_of-grid.ensures c.climate_of-climate.ensures _ _ _ _ _) _ _ _ _ _ _ _ _ _ _
           c.period-ended.ensures;
-      number = c.returned_as.ensures;
+      number = c.returned_as.ensures ∙ told_near _ (period_near _ _ _ _ _ _ _ _ _ _ _ c.period-ended.ensures);
       counted = refl;
     }

@@ -1,8 +1,0 @@
--- `numbers::returned_as` meets its contract: the verdict's own number and place.
-use Rattle.std.proofs.Common.{refl}
-use Rattle.clib.specs.Numbers.{returned}
-use Rattle.clib.proofs.numbers.returned_as.Goals as goal
-
-pub returns : goal.returns
-unfolding returned
-returns c = rw (c.numbered.ensures, c.number.ensures.0, c.place.ensures) refl
