@@ -14,66 +14,41 @@ const SERIAL: usize = 0;
 
 const DAY_OF_YEAR: usize = 1;
 
-// How texts look: the title, headings, counts, and the numbers along the edges.
-const TEXTS: &str = "text{font:13px sans-serif;fill:#222}
+// How things look: texts (the title, headings, counts, and the numbers along the edges), cells (the shades, from the lightest on, and open water), lines
+// (arrows, diamonds, the map's edge and the legend's boxes), and the hatch of open water.
+const STYLE: &str = r##"<title>Recharge</title>
+<style type="text/css">
+text{font:13px sans-serif;fill:#222}
 .t{font-size:30px;font-weight:bold}
 .k{font-weight:bold}
 .n{text-anchor:end}
 .i text{font-size:11px;text-anchor:middle}
 .j text{font-size:11px;text-anchor:end}
-";
-
-// How cells look: the shades, from the lightest on, and open water.
-const CELLS: &str = ".a{fill:#fafcc4}.b{fill:#d0e99b}.c{fill:#a2d68b}.d{fill:#70c289}
+.a{fill:#fafcc4}.b{fill:#d0e99b}.c{fill:#a2d68b}.d{fill:#70c289}
 .e{fill:#41ac86}.f{fill:#279382}.g{fill:#157b7a}.h{fill:#0c636e}
 .w{fill:url(#w);stroke:none}
 .m{stroke:#fff;stroke-width:.03}
-";
-
-// How lines look: arrows, diamonds, the map's edge and the legend's boxes.
-const LINES: &str = ".s{fill:none;stroke:#222;stroke-linecap:round}
+.s{fill:none;stroke:#222;stroke-linecap:round}
 .l{fill:none;stroke:#fff;stroke-linecap:round}
 .q{fill:#fff;stroke:#222}
 .o{fill:none;stroke:#222}
 .p{fill:none;stroke:#aaa;stroke-width:.05}
 .z{stroke:#aaa}
-";
+</style>
+<defs><pattern id="w" width="1" height=".25" patternUnits="userSpaceOnUse"><path fill="#d8e8fa" d="M0 0h1v.25h-1z"/><path fill="#1f66bd" d="M0 .08h1v.09h-1z"/></pattern></defs>
+"##;
 
-// The hatch of open water.
-fn write_hatch(page: &mut Page) -> fmt::Result {
-    write!(
-        page,
-        r#"<defs><pattern id="w" width="1" height=".25" patternUnits="userSpaceOnUse">"#
-    )?;
-    write!(page, r##"<path fill="#d8e8fa" d="M0 0h1v.25h-1z"/>"##)?;
-    writeln!(
-        page,
-        r##"<path fill="#1f66bd" d="M0 .08h1v.09h-1z"/></pattern></defs>"##
-    )
-}
-
-fn write_style(page: &mut Page) -> fmt::Result {
-    writeln!(page, "<title>Recharge</title>\n<style type=\"text/css\">")?;
-    page.write_str(TEXTS)?;
-    page.write_str(CELLS)?;
-    page.write_str(LINES)?;
-    writeln!(page, "</style>")?;
-    write_hatch(page)
-}
+const NAMESPACES: &str = r#"<?xml version="1.0" encoding="UTF-8"?>
+<svg xmlns="http://www.w3.org/2000/svg" xmlns:xlink="http://www.w3.org/1999/xlink" version="1.1" "#;
 
 // The page's size, and a white page, so that a dark one does not show through.
 pub(crate) fn write_front(page: &mut Page, width: usize, height: usize) -> fmt::Result {
-    writeln!(page, r#"<?xml version="1.0" encoding="UTF-8"?>"#)?;
-    write!(page, r#"<svg xmlns="http://www.w3.org/2000/svg" "#)?;
-    write!(
-        page,
-        r#"xmlns:xlink="http://www.w3.org/1999/xlink" version="1.1" "#
-    )?;
+    page.write_str(NAMESPACES)?;
     writeln!(
         page,
         r#"width="{width}" height="{height}" viewBox="0 0 {width} {height}">"#
     )?;
-    write_style(page)?;
+    page.write_str(STYLE)?;
     writeln!(
         page,
         r##"<path fill="#fff" d="M0 0h{width}v{height}H0z"/>"##

@@ -25,10 +25,11 @@ fn write_square(page: &mut Page, cell: Cell) -> fmt::Result {
 }
 
 fn write_squares(page: &mut Page, cells: &Cells) -> fmt::Result {
+    writeln!(page, r#"<g class="m">"#)?;
     for i in 0..cells.len() {
         write_square(page, cells.at(i))?;
     }
-    Ok(())
+    writeln!(page, "</g>")
 }
 
 // On each cell what `drawn` answers of it.
@@ -62,20 +63,23 @@ fn write_edge(page: &mut Page, frame: Frame) -> fmt::Result {
 }
 
 // The pointer sees the cells and not what is drawn on them.
-pub(crate) fn write_cells(page: &mut Page, frame: Frame, cells: &Cells) -> fmt::Result {
-    let scale = frame.cell;
+fn write_signs(page: &mut Page, frame: Frame, cells: &Cells) -> fmt::Result {
     let thin = if frame.has_large_cells() { ".07" } else { ".1" };
-    writeln!(
-        page,
-        r#"<g transform="translate({MAP_X},{MAP_Y}) scale({scale})">"#
-    )?;
-    writeln!(page, r#"<g class="m">"#)?;
-    write_squares(page, cells)?;
-    writeln!(page, "</g>")?;
     writeln!(page, r#"<g pointer-events="none" stroke-width="{thin}">"#)?;
     write_drawn(page, 's', cells, |cell| cell.arrow(Ink::Dark))?;
     write_drawn(page, 'l', cells, |cell| cell.arrow(Ink::White))?;
     write_drawn(page, 'q', cells, |cell| cell.diamond())?;
-    writeln!(page, "</g>\n</g>")?;
+    writeln!(page, "</g>")
+}
+
+pub(crate) fn write_cells(page: &mut Page, frame: Frame, cells: &Cells) -> fmt::Result {
+    let scale = frame.cell;
+    writeln!(
+        page,
+        r#"<g transform="translate({MAP_X},{MAP_Y}) scale({scale})">"#
+    )?;
+    write_squares(page, cells)?;
+    write_signs(page, frame, cells)?;
+    writeln!(page, "</g>")?;
     write_edge(page, frame)
 }
