@@ -19,16 +19,16 @@ use Rattle.grids.specs.Headers.{Header}
 use Rattle.grids.specs.Cells.{cell_fits, passing}
 use Rattle.grids.specs.Judging.{Verdict, accepted, refused, on_accepted}
 use Rattle.grids.specs.Reading.{header_read, cells_read, read_verdict}
-use Rattle.grids.specs.Given.{verdict_as, Reads}
-use Rattle.grids.specs.declared.reading.Read.{Read}
+use Rattle.grids.specs.Given.{verdict_as, answer_in, Reads}
+use Rattle.grids.specs.declared.headers.Header as code
+use Rattle.grids.specs.declared.judging.BadGrid.{BadGrid}
+use Rattle.std.specs.Prelude.{Result, Ok, Err}
 use Rattle.grids.proofs.AcceptedLaws.{Fit, fit, header_fit}
 use Rattle.grids.proofs.AnswerLaws.{header_back}
 use Rattle.desk.specs.declared.faults.Fault.{Fault}
 use Rattle.desk.specs.declared.faults.Fault.TheVariants.{Size}
-use Rattle.desk.specs.declared.faults.Tested.{Tested}
-use Rattle.desk.specs.declared.faults.Tested.TheVariants.{Passed, Failed}
-use Rattle.desk.specs.Faults.{◌then◌}
-use Rattle.desk.specs.Sheets.{Sheet, sheet_of, sheet_as, test_read, test_match, test_grids}
+use Rattle.desk.specs.Faults.{Tested, ◌then◌}
+use Rattle.desk.specs.Sheets.{Sheet, sheet_of, header_told, sheet_as, test_read, test_match, test_grids}
 use Rattle.desk.specs.Texts.{Files, Cells, cells_by, cell_line, cell_lines, setup_text, cells_in, text_of}
 use Rattle.desk.proofs.FaultLaws.{by_test, passed_before, passed_after, fits_unless}
 
@@ -50,16 +50,21 @@ module _ (text : List ℕ) (yes : Accepted text) where
   few_cells = (header_fit (header_read text) fits.header).size
 
 -- ---- what a call to read hands back
-module _ {text : List ℕ} {before after : List ℤ} {r : Read} (room : length before ≡ most_cells) (read : Reads text before after r) where
-  verdict_read : verdict_as r.verdict ≡ read_verdict text most_cells
-  verdict_read = rw room at read.verdict
+answer_says : {T : Type 0} (v : Verdict) (x : T) → verdict_as (answer_in v x) ≡ v
+unfolding answer_in
+answer_says accepted x = refl
+answer_says (refused place) x = refl
+
+module _ {text : List ℕ} {before after : List ℤ} {r : Result code.Header BadGrid} (room : length before ≡ most_cells) (read : Reads text before after r) where
+  verdict_read : verdict_as r ≡ read_verdict text most_cells
+  verdict_read = rw room at (ap verdict_as read.answer ∙ answer_says _ _)
 
   module _ (yes : Accepted text) where
     sheet_read : sheet_as r ≡ sheet_of text
-    unfolding on_accepted
+    unfolding answer_in
     sheet_read =
-        let h = rw (room, yes) at read.header in
-        rw (verdict_read, h, header_back (words text)) refl
+        let is = rw (room, yes) at read.answer in
+        rw (is, yes, header_back (words text)) refl
 
     cell_read : (i : ℕ) → i < cells_of (header_read text).grid → get_or after i (pos 0) ≡ get_or (cells_read text) i (pos 0)
     unfolding on_accepted
@@ -68,12 +73,12 @@ module _ {text : List ℕ} {before after : List ℤ} {r : Read} (room : length b
         rw all (over_front (cells_read text) before (pos 0) i (omega (arith, room, (fits text yes).counted, few_cells text yes)) (omega (arith, (fits text yes).counted)))
 
 -- ---- grids in which nothing is wrong
-none_refused : (file : ℕ) (v : Verdict) → test_read file v ≡ Passed → v ≡ accepted
+none_refused : (file : ℕ) (v : Verdict) → test_read file v ≡ Ok tt → v ≡ accepted
 unfolding test_read
 none_refused file accepted e = refl
 none_refused file (refused place) e = absurd (let o : ◌≡◌ {A = ℕ} 0 1 = cc in omega arith)
 
-same_size : (file : ℕ) (h first : Header) → test_match file h first ≡ Passed → cells_of h.grid ≡ cells_of first.grid
+same_size : (file : ℕ) (h first : Header) → test_match file h first ≡ Ok tt → cells_of h.grid ≡ cells_of first.grid
 unfolding test_match cells_of
 same_size file h first e =
     let columns = eqb h.grid.width first.grid.width in
@@ -94,7 +99,7 @@ lines_same a b (suc n) e = rw (lines_same a b n (λ i h. e i (omega arith)), e n
 abbrev pub grids_tested : Files → Tested
 grids_tested f = test_grids (sheet_of f.direction) (sheet_of f.cover) (sheet_of f.group) (sheet_of f.water)
 
-pub record Got (f : Files) (d c g w : List ℤ) (direction cover group water : Read) : Type 0 where
+pub record Got (f : Files) (d c g w : List ℤ) (direction cover group water : Result code.Header BadGrid) : Type 0 where
   pub before : List ℤ
   pub room : length before ≡ most_cells
   pub directions : Reads f.direction before d direction
@@ -102,7 +107,7 @@ pub record Got (f : Files) (d c g w : List ℤ) (direction cover group water : R
   pub groups : Reads f.group before g group
   pub waters : Reads f.water before w water
 
-module _ {f : Files} {d c g w : List ℤ} {direction cover group water : Read} (got : Got f d c g w direction cover group water) where
+module _ {f : Files} {d c g w : List ℤ} {direction cover group water : Result code.Header BadGrid} (got : Got f d c g w direction cover group water) where
   abbrev refusals : Tested
   refusals =
       test_read 0 (read_verdict f.direction most_cells)
@@ -116,7 +121,7 @@ module _ {f : Files} {d c g w : List ℤ} {direction cover group water : Read} (
     third : Accepted f.group
     fourth : Accepted f.water
 
-  taken : refusals ≡ Passed → Taken
+  taken : refusals ≡ Ok tt → Taken
   taken e =
       record {
         first = none_refused 0 _ (passed_before _ _ (passed_before _ _ (passed_before _ _ e)));
@@ -139,7 +144,7 @@ module _ {f : Files} {d c g w : List ℤ} {direction cover group water : Read} (
       )
       refl
 
-  same_refused : (fault : Fault) → refusals ≡ Failed fault → Same
+  same_refused : (fault : Fault) → refusals ≡ Err fault → Same
   unfolding test_grids ◌then◌
   same_refused fault e =
       rw (
@@ -154,7 +159,7 @@ module _ {f : Files} {d c g w : List ℤ} {direction cover group water : Read} (
   pub tested_read : Same
   tested_read = by_test refusals (λ e. same_taken (taken e)) same_refused
 
-  module _ (none : grids_tested f ≡ Passed) where
+  module _ (none : grids_tested f ≡ Ok tt) where
     all_taken : Taken
     unfolding test_grids
     all_taken = taken (passed_before _ _ (passed_before _ _ (passed_before _ _ none)))
@@ -174,11 +179,11 @@ module _ {f : Files} {d c g w : List ℤ} {direction cover group water : Read} (
     unfolding test_grids
     water_cells = same_size 3 _ _ (passed_after _ _ none)
 
-    grid_read : grid_as direction.header.grid ≡ (header_read f.direction).grid
+    grid_read : grid_as (header_told direction).grid ≡ (header_read f.direction).grid
     grid_read = ap (λ (s : Sheet). s.header.grid) (sheet_read got.room got.directions all_taken.first)
 
-    pub few_read : cells_of (grid_as direction.header.grid) ≤ most_cells
-    few_read = rw grid_read (few_cells f.direction all_taken.first)
+    pub few_read : (h : code.Header) → h ≡ header_told direction → cells_of (grid_as h.grid) ≤ most_cells
+    few_read h is = rw (is, grid_read) (few_cells f.direction all_taken.first)
 
     line_read : (i : ℕ) → i < cells → cell_line (cells_by d c g w) i ≡ cell_line (cells_in f) i
     unfolding cell_line
@@ -191,8 +196,8 @@ module _ {f : Files} {d c g w : List ℤ} {direction cover group water : Read} (
         )
         refl
 
-    pub text_read : setup_text (grid_as direction.header.grid) f.covers (cells_by d c g w) f.weather ≡ text_of f
+    pub text_read : (h : code.Header) → h ≡ header_told direction → setup_text (grid_as h.grid) f.covers (cells_by d c g w) f.weather ≡ text_of f
     unfolding setup_text text_of
-    text_read =
-        ap (λ (grid : Grid). setup_text grid f.covers (cells_by d c g w) f.weather) grid_read
+    text_read h is =
+        ap (λ (grid : Grid). setup_text grid f.covers (cells_by d c g w) f.weather) (ap (λ (told : code.Header). grid_as told.grid) is ∙ grid_read)
         ∙ rw (lines_same (cells_by d c g w) (cells_in f) cells line_read) refl

@@ -1,26 +1,31 @@
 -- Tests one after another: the first that fails counts, with what it finds wrong.
-use Rattle.std.specs.Prelude.{Bool, true, false, ℕ}
-use Rattle.desk.specs.declared.answers.Setup.{Setup}
-use Rattle.desk.specs.declared.answers.Setup.TheVariants.{Text, Wrong}
+use Rattle.std.specs.Prelude.{Bool, true, false, ℕ, Result, Ok, Err}
+use Rattle.grids.specs.declared.headers.Header.{Header}
 use Rattle.desk.specs.declared.faults.Fault.{Fault}
-use Rattle.desk.specs.declared.faults.Tested.{Tested}
-use Rattle.desk.specs.declared.faults.Tested.TheVariants.{Passed, Failed}
+
+abbrev pub Tested : Type 0
+Tested = Result (Unit {0}) Fault
 
 infixl 20 ◌then◌
 unfoldable pub ◌then◌ : Tested → Tested → Tested
-◌then◌ Passed later = later
-◌then◌ (Failed fault) later = Failed fault
+◌then◌ (Ok done) later = later
+◌then◌ (Err fault) later = Err fault
 
 unfoldable pub unless : Bool → Fault → Tested
-unless true fault = Passed
-unless false fault = Failed fault
+unless true fault = Ok tt
+unless false fault = Err fault
 
 -- what is answered: a text of so many bytes, or what is wrong
-unfoldable pub answer_of : Tested → ℕ → Setup
-answer_of Passed count = Text count
-answer_of (Failed fault) count = Wrong fault
+unfoldable pub answer_of : Tested → ℕ → Result ℕ Fault
+answer_of (Ok done) count = Ok count
+answer_of (Err fault) count = Err fault
+
+-- a header with what is wrong besides
+unfoldable pub headed : Tested → Header → Result Header Fault
+headed (Ok done) h = Ok h
+headed (Err fault) h = Err fault
 
 -- what holds where nothing is wrong, and where something is
 unfoldable pub on_passed : {A : Type 0} → Tested → A → A → A
-on_passed Passed x y = x
-on_passed (Failed fault) x y = y
+on_passed (Ok done) x y = x
+on_passed (Err fault) x y = y

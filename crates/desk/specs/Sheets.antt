@@ -1,15 +1,14 @@
 -- What can be wrong with the four grids, which are files 0 to 3: direction, cover, group and water.
-use Rattle.std.specs.Prelude.{◌&&◌, List, ℕ, eqb}
+use Rattle.std.specs.Prelude.{◌&&◌, List, ℕ, eqb, Result, Ok, Err}
 use Rattle.paper.specs.Limits.{most_cells}
-use Rattle.grids.specs.Headers.{Header, same}
+use Rattle.grids.specs.Headers.{Header, no_header, same}
 use Rattle.grids.specs.Judging.{Verdict, accepted, refused}
 use Rattle.grids.specs.Reading.{header_read, read_verdict}
-use Rattle.grids.specs.Given.{header_as, verdict_as}
-use Rattle.grids.specs.declared.reading.Read.{Read}
-use Rattle.desk.specs.declared.faults.Tested.{Tested}
-use Rattle.desk.specs.declared.faults.Tested.TheVariants.{Passed, Failed}
+use Rattle.grids.specs.Given.{header_as, header_in, verdict_as}
+use Rattle.grids.specs.declared.headers.Header as code
+use Rattle.grids.specs.declared.judging.BadGrid.{BadGrid}
 use Rattle.desk.specs.declared.faults.Fault.TheVariants.{Refused, Size, Corner, CellSize}
-use Rattle.desk.specs.Faults.{◌then◌, unless}
+use Rattle.desk.specs.Faults.{Tested, ◌then◌, unless}
 
 -- what is read of a grid besides its cells, for which there is room
 pub record Sheet : Type 0 where
@@ -21,8 +20,8 @@ sheet_of text = record { verdict = read_verdict text most_cells; header = header
 
 -- refusal 12
 unfoldable pub test_read : ℕ → Verdict → Tested
-test_read file accepted = Passed
-test_read file (refused place) = Failed (Refused file place)
+test_read file accepted = Ok tt
+test_read file (refused place) = Err (Refused file place)
 
 -- another size than the first grid's, another corner, another cell size; corner and cell size are texts, and the no-data numbers may differ
 unfoldable pub test_match : ℕ → Header → Header → Tested
@@ -42,6 +41,11 @@ test_grids direction cover group water =
     then test_match 2 group.header direction.header
     then test_match 3 water.header direction.header
 
+-- the header that a call to read tells, which is empty where the grid is refused
+abbrev pub header_told : Result code.Header BadGrid → code.Header
+header_told (Ok h) = h
+header_told (Err bad) = header_in no_header
+
 -- what the code reads of a grid as this
-abbrev pub sheet_as : Read → Sheet
-sheet_as r = record { verdict = verdict_as r.verdict; header = header_as r.header }
+abbrev pub sheet_as : Result code.Header BadGrid → Sheet
+sheet_as r = record { verdict = verdict_as r; header = header_as (header_told r) }

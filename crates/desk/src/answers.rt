@@ -7,18 +7,11 @@ ghost use Rattle.desk.specs.Texts.{files_by, cells_by, setup_text};
 ghost use Rattle.desk.specs.Answers.{Fitted, Sets};
 
 use crate::cover_file::is_cover_file;
-use crate::faults::{Fault, Tested};
+use crate::faults::Fault;
 use crate::sheets::test_grids;
 use crate::texts::put_text;
 use grids::read_grid;
 use records::{Grid, MOST_CELLS};
-
-#[derive(Clone, Copy)]
-pub enum Setup {
-    // The text stands at the front of the output: so many bytes.
-    Text(usize),
-    Wrong(Fault),
-}
 
 // Where the text would end is seen first, by writing it into nothing: an output that is too short stays as it was.
 fn write_text(
@@ -30,7 +23,7 @@ fn write_text(
     water: &[i32; MOST_CELLS],
     weather: &[u8],
     output: &mut [u8],
-) -> Setup
+) -> Result<usize, Fault>
     requires { cells_of (grid_as grid) ≤ most_cells }
     ensures { Fitted (setup_text (grid_as grid) covers.now (cells_by direction.now cover.now group.now water.now) weather.now)
         output.old output.new result }
@@ -46,15 +39,16 @@ fn write_text(
         weather,
     );
     if output.len() < end {
-        return Setup::Wrong(Fault::TooLong(end));
+        return Err(Fault::TooLong(end));
     }
     put_text(
         output, grid, covers, direction, cover, group, water, weather,
     );
-    Setup::Text(end)
+    Ok(end)
 }
 
-// What balance is to read of the desk's files: the grids of direction, cover, group and water, the cover file and the weather file.
+// What balance is to read of the desk's files: the grids of direction, cover, group and water, the cover file and the weather file. The text stands at the
+// front of the output: so many bytes.
 pub fn setup_text(
     direction: &[u8],
     cover: &[u8],
@@ -63,7 +57,7 @@ pub fn setup_text(
     covers: &[u8],
     weather: &[u8],
     output: &mut [u8],
-) -> Setup
+) -> Result<usize, Fault>
     ensures { Sets (files_by direction.now cover.now group.now water.now covers.now weather.now)
         output.old output.new result }
 {
@@ -75,17 +69,12 @@ pub fn setup_text(
     let second = read_grid(cover, &mut codes);
     let third = read_grid(group, &mut groups);
     let fourth = read_grid(water, &mut waters);
-    let tested = test_grids(first, second, third, fourth).then(Tested::unless(
-        is_cover_file(covers),
-        Fault::Covers,
-    ));
-    if let Tested::Failed(fault) = tested {
-        return Setup::Wrong(fault);
+    let header = test_grids(first, second, third, fourth)?;
+    if !is_cover_file(covers) {
+        return Err(Fault::Covers);
     }
-    let header = first.header;
-    let grid = header.grid;
     write_text(
-        grid,
+        header.grid,
         covers,
         &directions,
         &codes,

@@ -3,11 +3,15 @@ ghost use Rattle.std.specs.Prelude.{◌≡◌, length};
 ghost use Rattle.words.specs.Words.{words};
 ghost use Rattle.desk.specs.CoverFile.{cover_count, is_cover_file};
 
+use grids::size_at;
 use records::index_of;
-use words::{Meaning, next_word, number};
+use words::next_word;
 
 // The season's two days and the count of covers stand before the numbers of the covers.
 const FRONT_WORDS: usize = 3;
+
+// The number of that count among the words, counted from 0.
+const COUNT_WORD: usize = 2;
 
 const NUMBERS_PER_COVER: usize = 16;
 
@@ -29,19 +33,11 @@ fn word_count(text: &[u8]) -> usize
 }
 
 // The third word; 0 where that is no number, or one below zero.
+#[tactic(auto, unfolding(crate::specs::CoverFile::cover_count))]
 fn cover_count(text: &[u8]) -> u32
     ensures { result ≡ cover_count text.now }
 {
-    let first = next_word(text, 0);
-    let second = next_word(text, first.end);
-    let third = next_word(text, second.end);
-    let start = third.start;
-    let end = third.end;
-    match number(&text[start..end]) {
-        Meaning::Plain(count) => count,
-        Meaning::Below(_) => 0,
-        Meaning::Bad => 0,
-    }
+    size_at(text, COUNT_WORD)
 }
 
 #[tactic(auto, unfolding(crate::specs::CoverFile::is_cover_file))]

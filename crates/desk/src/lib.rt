@@ -7,5 +7,5 @@ mod faults;
 mod sheets;
 mod texts;
 
-pub use answers::{Setup, setup_text};
+pub use answers::setup_text;
 pub use faults::Fault;

@@ -40,14 +40,8 @@ fn put_lines(
         buffer.old buffer.new result }
 {
     let mut next = at;
-    let mut i = 0;
-    while i < count {
-        let d = direction[i];
-        let c = cover[i];
-        let g = group[i];
-        let w = water[i];
-        next = put_line(buffer, next, d, c, g, w);
-        i += 1;
+    for i in 0..count {
+        next = put_line(buffer, next, direction[i], cover[i], group[i], water[i]);
     }
     next
 }

@@ -5,6 +5,8 @@ ghost use Rattle.grids.specs.Given.{header_as, verdict_as};
 
 use crate::headers::Header;
 
+const BAD_GRID: u32 = 12;
+
 // A grid that is refused, at a cell or at 0.
 #[derive(Clone, Copy, Debug, PartialEq, Eq)]
 pub struct BadGrid(usize);
@@ -14,7 +16,7 @@ impl BadGrid {
     pub fn number(self) -> u32
         ensures { result ≡ grid_number (refused self.0) }
     {
-        12
+        BAD_GRID
     }
 
     #[tactic(auto, unfolding(crate::specs::Judging::grid_place))]

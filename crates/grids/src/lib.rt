@@ -14,5 +14,6 @@ pub use cells::put_cell;
 pub use headers::Header;
 pub use judging::BadGrid;
 pub use measures::{MOST_CHARACTERS, Measure};
+pub use names::size_at;
 pub use reading::read_grid;
 pub use writing::{write_grid, write_inches};

@@ -74,7 +74,8 @@ pub(crate) fn named_at(text: &[u8], k: usize, name: &[u8]) -> bool
     is_name(word_at(text, k), name)
 }
 
-pub(crate) fn size_at(text: &[u8], k: usize) -> u32
+// Columns, rows or another count that a word says; 0 where it is no number, or one below zero.
+pub fn size_at(text: &[u8], k: usize) -> u32
     ensures { result ≡ size_of (number_of (word_at (words text.now) k)) }
 {
     size(word_at(text, k))

@@ -1,22 +1,20 @@
 -- `answers::setup_text` meets its contract: what was read is what the files say. So what is found wrong is theirs, and where nothing is, the text is.
-use Rattle.std.proofs.Common.{◌≡◌, sym, ◌∙◌, ℤ, pos}
+use Rattle.std.proofs.Common.{◌≡◌, sym, ◌∙◌, ℤ, pos, rules, Ok, Err}
 use lib.ListN.{length-replicate}
-use Rattle.desk.specs.declared.faults.Tested.TheVariants.{Passed}
 use Rattle.desk.specs.Texts.{Files, files_by}
-use Rattle.desk.specs.Answers.{test_contents}
-use Rattle.desk.proofs.FaultLaws.{passed_before}
-use Rattle.desk.proofs.ReadLaws.{Got, tested_read, few_read, text_read}
-use Rattle.desk.proofs.AnswerLaws.{tested_by, answers_fault, answers_text}
-use Rattle.desk.proofs.answers.setup_text.Goals.{After-then-tested, In_default}
+use Rattle.desk.proofs.FaultLaws.{headed_ok, headed_err}
+use Rattle.desk.proofs.ReadLaws.{Got, grids_tested, tested_read, few_read, text_read}
+use Rattle.desk.proofs.AnswerLaws.{answers_grids, answers_covers, answers_text, none_wrong}
+use Rattle.desk.proofs.answers.setup_text.Goals.{After-test_grids, In_ok-header}
 use Rattle.desk.proofs.answers.setup_text.Goals as goal
 
-abbrev files : goal.After-then-tested → Files
+abbrev files : goal.After-test_grids → Files
 files c =
     let lent = c.args in
     files_by lent.direction.now lent.cover.now lent.group.now lent.water.now lent.covers.now lent.weather.now
 
 got :
-    (c : goal.After-then-tested) → Got (files c) c.read_grid-first.new.cells c.read_grid-second.new.cells c.read_grid-third.new.cells c.read_grid-fourth.new.cells
+    (c : goal.After-test_grids) → Got (files c) c.read_grid-first.new.cells c.read_grid-second.new.cells c.read_grid-third.new.cells c.read_grid-fourth.new.cells
     c.read_grid-first.result c.read_grid-second.result c.read_grid-third.result c.read_grid-fourth.result
 got c =
     record {
@@ -28,20 +26,27 @@ got c =
       waters = c.read_grid-fourth.ensures;
     }
 
-tested_is : (c : goal.After-then-tested) → c.then-tested.result ≡ test_contents (files c)
-tested_is c =
-    tested_by (files c) (c.test_grids.ensures ∙ tested_read (got c)) c.is_cover_file.ensures c.unless.ensures c.then-tested.ensures
+pub returns-in_err-header : goal.returns-in_err-header
+returns-in_err-header c =
+    let s = (goal.at.returns-in_err-header c).After-test_grids in
+    let same : c.from_residual.result ≡ Err c.in_err-header.field-0.0 = search rules in
+    rw same (answers_grids (files s) _ _ (sym (tested_read (got s)) ∙ headed_err _ _ c.in_err-header.ensures))
 
-pub returns-in-Failed : goal.returns-in-Failed
-returns-in-Failed c = answers_fault (files (goal.at.returns-in-Failed c).After-then-tested) _ _ (sym (tested_is (goal.at.returns-in-Failed c).After-then-tested) ∙ c.in-Failed.is)
+passed : (c : goal.In_ok-header) → grids_tested (files (goal.at.In_ok-header c).After-test_grids) ≡ Ok tt
+passed c = sym (tested_read (got (goal.at.In_ok-header c).After-test_grids)) ∙ (headed_ok _ _ c.in_ok-header.ensures).0
 
-none_wrong : (c : goal.In_default) → test_contents (files (goal.at.In_default c).After-then-tested) ≡ Passed
-none_wrong c = sym (tested_is (goal.at.In_default c).After-then-tested) ∙ c.in_default.is
+pub returns-then-not-is_cover_file : goal.returns-then-not-is_cover_file
+returns-then-not-is_cover_file c =
+    answers_covers (files (goal.at.returns-then-not-is_cover_file c).After-test_grids) _ (passed (goal.at.returns-then-not-is_cover_file c).In_ok-header)
+    (sym c.is_cover_file.ensures ∙ c.if-not-is_cover_file.true)
 
 pub write_text-requires : goal.write_text-requires
 write_text-requires c =
-    few_read (got (goal.at.write_text-requires c).After-then-tested) (passed_before _ _ (none_wrong (goal.at.write_text-requires c).In_default))
+    few_read (got (goal.at.write_text-requires c).After-test_grids) (passed (goal.at.write_text-requires c).In_ok-header) _ (headed_ok _ _ c.in_ok-header.ensures).1
 
 pub returns : goal.returns
 returns c =
-    answers_text (files (goal.at.returns c).After-then-tested) (none_wrong (goal.at.returns c).In_default) (text_read (got (goal.at.returns c).After-then-tested) (passed_before _ _ (none_wrong (goal.at.returns c).In_default))) c.write_text.ensures
+    let s = (goal.at.returns c).After-test_grids in
+    let none = passed (goal.at.returns c).In_ok-header in
+    answers_text (files s) (none_wrong (files s) none (sym c.is_cover_file.ensures ∙ c.if-not-is_cover_file.false))
+    (text_read (got s) none _ (headed_ok _ _ c.in_ok-header.ensures).1) c.write_text.ensures
