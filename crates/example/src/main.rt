@@ -6,6 +6,8 @@ use records::{
     Answer, Climate, DayRecord, Depth, FrostIndex, Grid, Past, Season, Setpoints, TenthF, Totals,
     Verdict,
 };
+use std::fmt;
+use std::fmt::{Display, Formatter};
 
 // Two cells in a row, of one cover: the left one drains to the right one, a closed depression.
 const GRID: Grid = Grid {
@@ -36,104 +38,109 @@ const GROUPS: [u32; 2] = [2, 2];
 
 const WATER: [u32; 2] = [200, 200];
 
-fn put(rt: &impl Print, words: &[u8]) {
-    let _ = rt.write_all(words);
+// A day's answer, as the program prints it.
+#[derive(Clone, Copy)]
+struct Line {
+    serial: u32,
+    answer: Answer,
 }
 
-fn put_number(rt: &impl Print, n: u64) {
-    let _ = rt.print(n);
+// The two cells from day to day.
+#[derive(Clone, Copy)]
+struct State {
+    soil: [u32; 2],
+    snow: [u32; 2],
+    past: Past,
 }
 
-fn shown(rt: &impl Print, n: u64) {
-    put(rt, b" ");
-    put_number(rt, n);
-}
-
-fn line(rt: &impl Print, serial: u32, totals: Totals) {
-    put_number(rt, serial as u64);
-    shown(rt, totals.gross.0);
-    shown(rt, totals.intercepted.0);
-    shown(rt, totals.evapotranspired.0);
-    shown(rt, totals.recharged.0);
-    shown(rt, totals.rejected.0);
-    shown(rt, totals.gone.0);
-    shown(rt, totals.stored.0);
-    put(rt, b"\n");
-}
-
-// Prints a day's answer, and hands on what the next day starts from.
-fn told(rt: &impl Print, serial: u32, answer: Answer) -> Past {
-    let verdict = answer.verdict;
-    let totals = answer.totals;
-    match verdict {
-        Verdict::Accepted => line(rt, serial, totals),
-        Verdict::Refused(why) => {
-            put(rt, b"refused");
-            shown(rt, why.number() as u64);
-            put(rt, b" at");
-            shown(rt, why.place() as u64);
-            put(rt, b"\n");
+impl Display for Line {
+    fn fmt<W: fmt::Write>(&self, f: &mut Formatter<W>) -> fmt::Result {
+        let Totals {
+            gross,
+            intercepted,
+            evapotranspired,
+            recharged,
+            rejected,
+            gone,
+            stored,
+        } = self.answer.totals;
+        match self.answer.verdict {
+            Verdict::Accepted => write!(
+                f,
+                "{} {} {} {} {} {} {} {}",
+                self.serial,
+                gross.0,
+                intercepted.0,
+                evapotranspired.0,
+                recharged.0,
+                rejected.0,
+                gone.0,
+                stored.0
+            ),
+            Verdict::Refused(why) => write!(f, "refused {} at {}", why.number(), why.place()),
         }
     }
-    answer.past
 }
 
-// One day of the two cells. What each cell gives besides its stores is in the totals, and is not looked at.
-fn day(
-    rt: &impl Print,
-    soil: &mut [u32; 2],
-    snow: &mut [u32; 2],
-    past: Past,
-    serial: u32,
-    date: u32,
-    gross: u64,
-) -> Past {
-    let record = DayRecord {
-        serial,
-        day_of_year: date,
-        gross: Depth(gross),
-        minimum: TenthF(600),
-        mean: TenthF(700),
-        maximum: TenthF(800),
-        potential: Depth(2000),
-    };
-    let answer = recharge::day(
-        GRID,
-        CLIMATE,
-        &COVERS,
-        &DIRECTIONS,
-        &CODES,
-        &GROUPS,
-        &WATER,
-        soil,
-        snow,
-        &mut [0, 0],
-        &mut [0, 0],
-        &mut [0, 0],
-        &mut [0, 0],
-        &mut [0, 0],
-        past,
-        record,
-    );
-    told(rt, serial, answer)
+impl State {
+    fn fresh() -> State {
+        let mut soil = [0, 0];
+        let mut snow = [0, 0];
+        let start = recharge::fresh(
+            GRID,
+            CLIMATE,
+            &COVERS,
+            &DIRECTIONS,
+            &CODES,
+            &GROUPS,
+            &WATER,
+            &mut soil,
+            &mut snow,
+        );
+        State {
+            soil,
+            snow,
+            past: start.past,
+        }
+    }
+
+    // One day of the two cells. What each cell gives besides its stores is in the totals, and is not looked at.
+    fn day(&mut self, serial: u32, day_of_year: u32, gross: u64) -> Line {
+        let record = DayRecord {
+            serial,
+            day_of_year,
+            gross: Depth(gross),
+            minimum: TenthF(600),
+            mean: TenthF(700),
+            maximum: TenthF(800),
+            potential: Depth(2000),
+        };
+        let answer = recharge::day(
+            GRID,
+            CLIMATE,
+            &COVERS,
+            &DIRECTIONS,
+            &CODES,
+            &GROUPS,
+            &WATER,
+            &mut self.soil,
+            &mut self.snow,
+            &mut [0, 0],
+            &mut [0, 0],
+            &mut [0, 0],
+            &mut [0, 0],
+            &mut [0, 0],
+            self.past,
+            record,
+        );
+        self.past = answer.past;
+        Line { serial, answer }
+    }
 }
 
 fn main(rt: HostRuntime) {
-    let mut soil = [0, 0];
-    let mut snow = [0, 0];
-    let start = recharge::fresh(
-        GRID,
-        CLIMATE,
-        &COVERS,
-        &DIRECTIONS,
-        &CODES,
-        &GROUPS,
-        &WATER,
-        &mut soil,
-        &mut snow,
-    );
-    let past = start.past;
-    let past = day(&rt, &mut soil, &mut snow, past, 1, 150, 30900);
-    let past = day(&rt, &mut soil, &mut snow, past, 2, 151, 0);
-    day(&rt, &mut soil, &mut snow, past, 2, 152, 0);
+    let mut state = State::fresh();
+    for (serial, day_of_year, gross) in [(1, 150, 30900), (2, 151, 0), (2, 152, 0)] {
+        let _ = rt.println(state.day(serial, day_of_year, gross));
+    }
 }

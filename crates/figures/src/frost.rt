@@ -1,34 +1,26 @@
 // The frost index, by a winter worked by hand: thirty days of mean 14 degrees and 26 of mean 41.
-use crate::one_cell::{BARE, lived, remembered, weather};
-use crate::printing::{ended, put, shown};
+use crate::one_cell::{BARE, Cell, Temperatures, remembered, weather};
+use records::Refusal;
+use std::ops::Range;
 
-// One dry day of this mean temperature after this index: the index that it sets.
-fn frozen(rt: &impl Print, day: u64, mean: i32, index: u64) -> u64 {
-    let cell = lived(
-        BARE,
-        0,
-        0,
-        remembered(0, index),
-        weather(0, mean, mean, mean, 0),
-    );
-    let set = cell.frost;
-    put(rt, b"frost");
-    shown(rt, day);
-    shown(rt, set);
-    ended(rt);
-    set
-}
-
-// Days of one mean temperature, from one day to the day before another.
-fn spell(rt: &impl Print, from: u64, to: u64, mean: i32, before: u64) -> u64 {
+// Dry days of one mean temperature after this index: the index that they set, day by day.
+fn spell(rt: &impl Print, days: Range<u64>, mean: i32, before: u64) -> Result<u64, Refusal> {
+    let temperatures = Temperatures {
+        minimum: mean,
+        mean,
+        maximum: mean,
+    };
     let mut index = before;
-    for day in from..to {
-        index = frozen(rt, day, mean, index);
+    for day in days {
+        let cell = Cell::DRY.lived(BARE, remembered(0, index), weather(0, temperatures, 0))?;
+        index = cell.frost;
+        let _ = println!(rt; "frost {day} {index}");
     }
-    index
+    Ok(index)
 }
 
-pub(crate) fn frost_days(rt: &impl Print) {
-    let index = spell(rt, 1, 31, 140, 0);
-    spell(rt, 31, 57, 410, index);
+pub(crate) fn frost_days(rt: &impl Print) -> Result<(), Refusal> {
+    let index = spell(rt, 1..31, 140, 0)?;
+    spell(rt, 31..57, 410, index)?;
+    Ok(())
 }

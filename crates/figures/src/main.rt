@@ -5,23 +5,29 @@
 mod curve_numbers;
 mod frost;
 mod one_cell;
-mod printing;
 mod refusals;
 mod retaining;
 mod winter;
 
 use curve_numbers::curve_numbers;
 use frost::frost_days;
+use records::Refusal;
 use refusals::refusals;
 use retaining::{capacity, retention};
 use winter::{melts, winter_days};
 
+fn run(rt: &impl Print) -> Result<(), Refusal> {
+    curve_numbers(rt)?;
+    retention(rt)?;
+    capacity(rt, 200, 250);
+    winter_days(rt)?;
+    melts(rt)?;
+    frost_days(rt)
+}
+
 fn main(rt: HostRuntime) {
-    curve_numbers(&rt);
-    retention(&rt);
-    capacity(&rt, 200, 250);
-    winter_days(&rt);
-    melts(&rt);
-    frost_days(&rt);
+    if let Err(why) = run(&rt) {
+        let _ = println!(rt; "a day is refused: {} at {}", why.number(), why.place());
+    }
     refusals(&rt);
 }

@@ -1,7 +1,7 @@
 // Days of one cell that drains over the edge.
 use records::{
-    Climate, DayRecord, Depth, FrostIndex, Grid, Last, Memory, Past, Season, Setpoints, TenthF,
-    Verdict,
+    Climate, DayRecord, Depth, FrostIndex, Grid, Last, Memory, Past, Refusal, Season, Setpoints,
+    TenthF, Verdict,
 };
 
 pub(crate) const CLIMATE: Climate = Climate {
@@ -18,6 +18,21 @@ pub(crate) const CLIMATE: Climate = Climate {
 pub(crate) const ONE_CELL: Grid = Grid {
     width: 1,
     height: 1,
+};
+
+// A day's temperatures, in tenths of a degree Fahrenheit.
+#[derive(Clone, Copy)]
+pub(crate) struct Temperatures {
+    pub(crate) minimum: i32,
+    pub(crate) mean: i32,
+    pub(crate) maximum: i32,
+}
+
+// A day without snow or melt.
+pub(crate) const MILD: Temperatures = Temperatures {
+    minimum: 600,
+    mean: 700,
+    maximum: 800,
 };
 
 // What a day leaves of the cell.
@@ -58,73 +73,61 @@ pub(crate) fn remembered(yesterday: u64, frost: u64) -> Past {
     }
 }
 
-pub(crate) fn weather(
-    gross: u64,
-    minimum: i32,
-    mean: i32,
-    maximum: i32,
-    potential: u64,
-) -> DayRecord {
+pub(crate) fn weather(gross: u64, temperatures: Temperatures, potential: u64) -> DayRecord {
     DayRecord {
         serial: 1,
         day_of_year: 150,
         gross: Depth(gross),
-        minimum: TenthF(minimum),
-        mean: TenthF(mean),
-        maximum: TenthF(maximum),
+        minimum: TenthF(temperatures.minimum),
+        mean: TenthF(temperatures.mean),
+        maximum: TenthF(temperatures.maximum),
         potential: Depth(potential),
     }
 }
 
-// One growing day of the cell. No interception, and no excess may recharge. A refused day would show as numbers that no day gives.
-pub(crate) fn lived(ground: Ground, soil: u32, snow: u32, past: Past, day: DayRecord) -> Cell {
-    let n = ground.curve;
-    let root = ground.root;
-    let depth = ground.water;
-    let covers = [3, 0, n, n, n, n, 0, 0, 0, 0, 0, 0, root, root, root, root];
-    let direction = [1];
-    let cover = [3];
-    let group = [2];
-    let water = [depth];
-    let mut soils = [soil];
-    let mut snows = [snow];
-    let mut intercepted = [0];
-    let mut outflow = [0];
-    let mut evapotranspired = [0];
-    let mut recharged = [0];
-    let mut rejected = [0];
-    let answer = recharge::day(
-        ONE_CELL,
-        CLIMATE,
-        &covers,
-        &direction,
-        &cover,
-        &group,
-        &water,
-        &mut soils,
-        &mut snows,
-        &mut intercepted,
-        &mut outflow,
-        &mut evapotranspired,
-        &mut recharged,
-        &mut rejected,
-        past,
-        day,
-    );
-    let verdict = answer.verdict;
-    let Verdict::Accepted = verdict else {
-        return Cell {
-            outflow: 4294967295,
-            soil: 4294967295,
-            snow: 4294967295,
-            frost: 4294967295,
-        };
+impl Cell {
+    pub(crate) const DRY: Cell = Cell {
+        outflow: 0,
+        soil: 0,
+        snow: 0,
+        frost: 0,
     };
-    let past = answer.past;
-    Cell {
-        outflow: outflow[0],
-        soil: soils[0],
-        snow: snows[0],
-        frost: past.frost.0,
+
+    // One growing day of the cell, from its soil and snow on. No interception, and no excess may recharge.
+    pub(crate) fn lived(self, ground: Ground, past: Past, day: DayRecord) -> Result<Cell, Refusal> {
+        let Ground { curve, root, water } = ground;
+        let covers = [
+            3, 0, curve, curve, curve, curve, 0, 0, 0, 0, 0, 0, root, root, root, root,
+        ];
+        let mut soil = [self.soil];
+        let mut snow = [self.snow];
+        let mut outflow = [0];
+        let answer = recharge::day(
+            ONE_CELL,
+            CLIMATE,
+            &covers,
+            &[1],
+            &[3],
+            &[2],
+            &[water],
+            &mut soil,
+            &mut snow,
+            &mut [0],
+            &mut outflow,
+            &mut [0],
+            &mut [0],
+            &mut [0],
+            past,
+            day,
+        );
+        match answer.verdict {
+            Verdict::Refused(why) => Err(why),
+            Verdict::Accepted => Ok(Cell {
+                outflow: outflow[0],
+                soil: soil[0],
+                snow: snow[0],
+                frost: answer.past.frost.0,
+            }),
+        }
     }
 }

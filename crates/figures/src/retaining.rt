@@ -1,56 +1,35 @@
 // The soil of rule 8 in dry spells, which document 000 fits, and the full soil of a fresh state.
 ghost use Rattle.std.specs.Prelude.{◌≤◌};
 
-use crate::one_cell::{CLIMATE, Ground, ONE_CELL, lived, remembered, weather};
-use crate::printing::{ended, put, shown};
-use records::wide;
+use crate::one_cell::{CLIMATE, Cell, Ground, MILD, ONE_CELL, remembered, weather};
+use records::{Refusal, wide};
 
 // The soil after so many dry days, each with a potential of a tenth of the capacity; the capacity is given in tenths of an inch.
-fn dried(tenths: u32, days: u32, soil: u32) -> u32
+fn dried(tenths: u32, days: u32, soil: u32) -> Result<u32, Refusal>
     requires { tenths ≤ 172 }
 {
-    let mut left = soil;
-    let mut day = 0;
-    while day < days {
-        let ground = Ground {
-            curve: 75,
-            root: 5 * tenths,
-            water: 200,
-        };
-        let cell = lived(
-            ground,
-            left,
-            0,
-            remembered(0, 0),
-            weather(0, 600, 700, 800, 100 * wide(tenths)),
-        );
-        left = cell.soil;
-        day += 1;
+    let ground = Ground {
+        curve: 75,
+        root: 5 * tenths,
+        water: 200,
+    };
+    let mut cell = Cell { soil, ..Cell::DRY };
+    for _ in 0..days {
+        let day = weather(0, MILD, 100 * wide(tenths));
+        cell = cell.lived(ground, remembered(0, 0), day)?;
     }
-    left
+    Ok(cell.soil)
 }
 
 // The soil left when half the capacity, all of it and twice as much has been asked for in vain.
-fn retained(rt: &impl Print, tenths: u32)
-    requires { tenths ≤ 172 }
-{
-    let half = dried(tenths, 5, 1000 * tenths);
-    let once = dried(tenths, 5, half);
-    let twice = dried(tenths, 10, once);
-    put(rt, b"soil");
-    shown(rt, wide(tenths));
-    shown(rt, wide(half));
-    shown(rt, wide(once));
-    shown(rt, wide(twice));
-    ended(rt);
-}
-
-pub(crate) fn retention(rt: &impl Print) {
-    let mut tenths = 5;
-    while tenths <= 172 {
-        retained(rt, tenths);
-        tenths += 1;
+pub(crate) fn retention(rt: &impl Print) -> Result<(), Refusal> {
+    for tenths in 5..=172 {
+        let half = dried(tenths, 5, 1000 * tenths)?;
+        let once = dried(tenths, 5, half)?;
+        let twice = dried(tenths, 10, once)?;
+        let _ = println!(rt; "soil {tenths} {half} {once} {twice}");
     }
+    Ok(())
 }
 
 // The full soil of a fresh state.
@@ -59,8 +38,7 @@ pub(crate) fn capacity(rt: &impl Print, water: u32, root: u32) {
         3, 0, 75, 75, 75, 75, 0, 0, 0, 0, 0, 0, root, root, root, root,
     ];
     let mut soil = [0];
-    let mut snow = [0];
-    let start = recharge::fresh(
+    recharge::fresh(
         ONE_CELL,
         CLIMATE,
         &covers,
@@ -69,11 +47,7 @@ pub(crate) fn capacity(rt: &impl Print, water: u32, root: u32) {
         &[2],
         &[water],
         &mut soil,
-        &mut snow,
+        &mut [0],
     );
-    put(rt, b"capacity");
-    shown(rt, wide(water));
-    shown(rt, wide(root));
-    shown(rt, wide(soil[0]));
-    ended(rt);
+    let _ = println!(rt; "capacity {water} {root} {}", soil[0]);
 }

@@ -1,85 +1,71 @@
 // Snow and melt of rule 3, by the days of document 003 and by the maximum.
-use crate::one_cell::{BARE, lived, remembered, weather};
-use crate::printing::{ended, put, shown};
-use records::{TenthF, wide};
+use crate::one_cell::{BARE, Cell, Temperatures, remembered, weather};
+use records::{Refusal, TenthF};
 
 // 40 inches on a day of these temperatures leave snow exactly if they fall as snow: no day melts so much.
-fn snows(minimum: i32, mean: i32, maximum: i32) -> u64 {
-    let cell = lived(
-        BARE,
-        0,
-        0,
-        remembered(0, 0),
-        weather(400000, minimum, mean, maximum, 0),
-    );
-    let left = cell.snow;
-    if left > 0 { 1 } else { 0 }
+fn snows(temperatures: Temperatures) -> Result<bool, Refusal> {
+    let cell = Cell::DRY.lived(BARE, remembered(0, 0), weather(400000, temperatures, 0))?;
+    Ok(cell.snow > 0)
 }
 
 // One day of document 003's table 3 on ground that passes all its water on: 1 for snow or 0 for rain, the snow that lies after it, and what reached
 // the ground.
 fn winter(
     rt: &impl Print,
-    date: u64,
+    day_of_month: u64,
     gross: u64,
-    minimum: i32,
-    mean: i32,
-    maximum: i32,
-    snow: u32,
-) -> u32 {
-    let cell = lived(
-        BARE,
-        0,
-        snow,
-        remembered(0, 0),
-        weather(gross, minimum, mean, maximum, 0),
-    );
-    let left = cell.snow;
-    let outflow = cell.outflow;
-    put(rt, b"snow");
-    shown(rt, date);
-    shown(rt, snows(minimum, mean, maximum));
-    shown(rt, wide(left));
-    shown(rt, wide(outflow));
-    ended(rt);
-    left
+    temperatures: Temperatures,
+    before: Cell,
+) -> Result<Cell, Refusal> {
+    let after = before.lived(BARE, remembered(0, 0), weather(gross, temperatures, 0))?;
+    let falls = u8::from(snows(temperatures)?);
+    let Cell { snow, outflow, .. } = after;
+    let _ = println!(rt; "snow {day_of_month} {falls} {snow} {outflow}");
+    Ok(after)
 }
 
 // How far a maximum is above freezing, and what a dry day of it melts of deep snow, read off ground that passes all its water on.
-fn melted(rt: &impl Print, maximum: i32) {
-    let cell = lived(
-        BARE,
-        0,
-        1000000,
-        remembered(0, 0),
-        weather(0, 100, 200, maximum, 0),
-    );
-    let outflow = cell.outflow;
-    put(rt, b"melt");
-    shown(rt, TenthF(maximum).above_freezing());
-    shown(rt, wide(outflow));
-    ended(rt);
+fn melted(rt: &impl Print, maximum: i32) -> Result<(), Refusal> {
+    let deep = Cell {
+        snow: 1000000,
+        ..Cell::DRY
+    };
+    let temperatures = Temperatures {
+        minimum: 100,
+        mean: 200,
+        maximum,
+    };
+    let cell = deep.lived(BARE, remembered(0, 0), weather(0, temperatures, 0))?;
+    let degrees = TenthF(maximum).above_freezing();
+    let _ = println!(rt; "melt {degrees} {}", cell.outflow);
+    Ok(())
 }
 
-pub(crate) fn melts(rt: &impl Print) {
-    melted(rt, 320);
-    melted(rt, 321);
-    melted(rt, 325);
-    melted(rt, 330);
-    melted(rt, 410);
-    melted(rt, 500);
-    melted(rt, 701);
-    melted(rt, 1000);
-    melted(rt, 1500);
+pub(crate) fn melts(rt: &impl Print) -> Result<(), Refusal> {
+    for maximum in [320, 321, 325, 330, 410, 500, 701, 1000, 1500] {
+        melted(rt, maximum)?;
+    }
+    Ok(())
 }
 
-pub(crate) fn winter_days(rt: &impl Print) {
-    let snow = winter(rt, 2, 900, 100, 215, 330, 0);
-    let snow = winter(rt, 3, 1000, 330, 370, 410, snow);
-    let snow = winter(rt, 4, 1700, 240, 315, 390, snow);
-    let snow = winter(rt, 5, 30, 190, 235, 280, snow);
-    let snow = winter(rt, 6, 30, 150, 205, 260, snow);
-    let snow = winter(rt, 7, 30, 100, 160, 220, snow);
-    let snow = winter(rt, 8, 30, 60, 140, 220, snow);
-    winter(rt, 9, 30, 160, 185, 210, snow);
+pub(crate) fn winter_days(rt: &impl Print) -> Result<(), Refusal> {
+    let mut cell = Cell::DRY;
+    for (day_of_month, gross, minimum, mean, maximum) in [
+        (2, 900, 100, 215, 330),
+        (3, 1000, 330, 370, 410),
+        (4, 1700, 240, 315, 390),
+        (5, 30, 190, 235, 280),
+        (6, 30, 150, 205, 260),
+        (7, 30, 100, 160, 220),
+        (8, 30, 60, 140, 220),
+        (9, 30, 160, 185, 210),
+    ] {
+        let temperatures = Temperatures {
+            minimum,
+            mean,
+            maximum,
+        };
+        cell = winter(rt, day_of_month, gross, temperatures, cell)?;
+    }
+    Ok(())
 }

@@ -1,8 +1,5 @@
 -- What was read stands at the front of the buffer.
-use Rattle.std.specs.Prelude.{List, ℕ, ◌≤◌, length}
-use Rattle.intake.specs.declared.Input.{Input}
-use Rattle.intake.specs.declared.Input.TheVariants.{Bytes, Failed}
+use Rattle.std.specs.Prelude.{List, ℕ, Result, IfOk, ◌≤◌, length}
 
-abbrev pub Within : Input → List ℕ → Type 0
-Within (Bytes n) bytes = n ≤ length bytes
-Within Failed bytes = Unit {0}
+abbrev pub Within : {E : Type 0} → Result ℕ E → List ℕ → Type 0
+Within result bytes = IfOk result (λ count. count ≤ length bytes)

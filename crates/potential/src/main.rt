@@ -2,31 +2,18 @@
 // can't be read nothing is printed; a failed read or write is said on standard error.
 #![tactic(auto)]
 
-ghost use Rattle.std.specs.Prelude.{◌≡◌, length};
-
-use intake::Input;
+use intake::{Failure, filled};
 use station::MOST_ANSWERS;
+use std::io::Input;
 
-// Room for the answers to any text, in a function of its own: the checker writes a long array out in every function that makes one.
-fn output_room() -> [u8; MOST_ANSWERS]
-    ensures { 1310720 ≡ length result }
-{
-    [0u8; MOST_ANSWERS]
-}
-
-fn print(rt: &(impl Print + Eprint), text: &[u8]) {
-    if let Err(error) = rt.write_all(text) {
-        intake::fail(rt, b"potential: standard output", error);
-    }
+fn run(rt: &(impl Input + Print)) -> Result<(), Failure> {
+    let mut input = intake::input_room();
+    let count = intake::read_input(rt, "potential: standard input", &mut input)?;
+    let mut output = filled::<u8, MOST_ANSWERS>(0);
+    let end = station::potential_text(&input[..count], &mut output);
+    intake::print(rt, "potential: standard output", &output[..end])
 }
 
 fn main(rt: HostRuntime) {
-    let mut input = intake::input_room();
-    let Input::Bytes(count) = intake::read_input(&rt, b"potential: standard input", &mut input)
-    else {
-        return;
-    };
-    let mut output = output_room();
-    let end = station::potential_text(&input[..count], &mut output);
-    print(&rt, &output[..end]);
+    intake::say(&rt, run(&rt));
 }

@@ -1,64 +1,73 @@
-// The files that the arguments name, counted from 0.
+// The files that the arguments name, in their order.
 ghost use Rattle.intake.specs.Input.{Within};
 
-use crate::saying::{argument_of, say, say_longer};
-use intake::{Input, name_room};
+use crate::wrong::Wrong;
+use intake::{Name, Unread, argument_count, name_given, path_of};
 use std::rt::{Env, Files};
-use words::put_bytes;
 
 // The program's own name counts as an argument.
 const ARGUMENTS: usize = 7;
 
-// What is said of a file begins with `setup: ` and its name, which has at most 4,096 bytes.
-const MOST_LABEL: usize = 4103;
-
-// A name that is missing, or too long, is empty.
-fn is_named(rt: &impl Env, argument: usize) -> bool {
-    let mut name = name_room();
-    intake::argument(rt, argument, &mut name) != 0
+#[derive(Clone, Copy)]
+pub(crate) struct Names {
+    pub(crate) direction: Name,
+    pub(crate) cover: Name,
+    pub(crate) group: Name,
+    pub(crate) water: Name,
+    pub(crate) covers: Name,
+    pub(crate) weather: Name,
 }
 
-pub(crate) fn all_named(rt: &(impl Env + Eprint)) -> bool {
-    if intake::argument_count(rt) != ARGUMENTS {
-        say(
-            rt,
-            b"usage: setup DIRECTION COVER GROUP WATER COVERS WEATHER\n",
-        );
-        return false;
-    }
-    if is_named(rt, 1)
-        & is_named(rt, 2)
-        & is_named(rt, 3)
-        & is_named(rt, 4)
-        & is_named(rt, 5)
-        & is_named(rt, 6)
-    {
-        return true;
-    }
-    say(rt, b"setup: a file's name has more than 4096 bytes\n");
-    false
+fn all_named(rt: &impl Env) -> Option<Names> {
+    Some(Names {
+        direction: name_given(rt, 1)?,
+        cover: name_given(rt, 2)?,
+        group: name_given(rt, 3)?,
+        water: name_given(rt, 4)?,
+        covers: name_given(rt, 5)?,
+        weather: name_given(rt, 6)?,
+    })
 }
 
-// What is wrong with a file is said.
-pub(crate) fn read(
-    rt: &(impl Env + Files + Eprint),
-    file: u32,
+impl Names {
+    pub(crate) fn given(rt: &impl Env) -> Result<Names, Wrong<'static>> {
+        if argument_count(rt) != ARGUMENTS {
+            return Err(Wrong::Usage);
+        }
+        all_named(rt).ok_or(Wrong::LongName)
+    }
+
+    // The grids are numbered in the order of the arguments, as `desk::Fault` numbers them.
+    pub(crate) fn grid(&self, file: u32) -> &Name {
+        match file {
+            0 => &self.direction,
+            1 => &self.cover,
+            2 => &self.group,
+            _ => &self.water,
+        }
+    }
+}
+
+fn read_named(
+    rt: &impl Files,
+    name: &Name,
     longest: usize,
     buffer: &mut [u8],
-) -> Input
+) -> Result<usize, Unread>
     ensures { Within result buffer.new }
 {
-    let mut name = name_room();
-    let long = intake::argument(rt, argument_of(file), &mut name);
-    let mut label = [0u8; MOST_LABEL];
-    let front = put_bytes(&mut label, 0, b"setup: ");
-    let end = put_bytes(&mut label, front, &name[..long]);
-    let Input::Bytes(count) = intake::read_file(rt, &label[..end], &name[..long], buffer) else {
-        return Input::Failed;
-    };
-    if longest < count {
-        say_longer(rt, file, longest);
-        return Input::Failed;
+    intake::read_file(rt, path_of(name.as_bytes())?, longest, buffer)
+}
+
+// The file's bytes, at the front of a buffer that has a place more than the longest.
+pub(crate) fn read<'a, 'b>(
+    rt: &impl Files,
+    name: &'a Name,
+    longest: usize,
+    buffer: &'b mut [u8],
+) -> Result<&'b [u8], Wrong<'a>> {
+    match read_named(rt, name, longest, buffer) {
+        Ok(count) => Ok(&buffer[..count]),
+        Err(why) => Err(Wrong::Unread(name, why)),
     }
-    Input::Bytes(count)
 }

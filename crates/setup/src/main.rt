@@ -2,81 +2,46 @@
 // nothing is printed, and a line on standard error says what.
 #![tactic(auto)]
 
-ghost use Rattle.std.specs.Prelude.{◌≡◌, length};
-
 mod files;
-mod saying;
+mod wrong;
 
 use desk::Setup;
-use files::{all_named, read};
-use intake::Input;
-use saying::say_fault;
+use files::{Names, read};
+use intake::{filled, input_room, say};
+use std::rt::Files;
+use wrong::Wrong;
 
 const LONGEST_GRID: usize = 262144;
+
+// Room for a grid's file and a byte more, so that a longer one shows by its length.
+const GRID_ROOM: usize = 262145;
 
 // As long as a text of balance can be.
 const LONGEST_OTHER: usize = 65536;
 
-// Room for a grid's file and a byte more, so that a longer one shows by its length. It stands in a function of its own: the checker writes a long array out
-// in every function that makes one.
-fn grid_room() -> [u8; 262145]
-    ensures { 262145 ≡ length result }
-{
-    [0u8; 262145]
-}
-
-// Room for a text.
-fn text_room() -> [u8; 65536]
-    ensures { 65536 ≡ length result }
-{
-    [0u8; 65536]
-}
-
-fn print(rt: &(impl Print + Eprint), text: &[u8]) {
-    if let Err(error) = rt.write_all(text) {
-        intake::fail(rt, b"setup: standard output", error);
+fn make<'a>(rt: &(impl Files + Print), names: &'a Names) -> Result<(), Wrong<'a>> {
+    let mut direction = filled::<u8, GRID_ROOM>(0);
+    let mut cover = filled::<u8, GRID_ROOM>(0);
+    let mut group = filled::<u8, GRID_ROOM>(0);
+    let mut water = filled::<u8, GRID_ROOM>(0);
+    let mut covers = input_room();
+    let mut weather = input_room();
+    let mut output = filled::<u8, LONGEST_OTHER>(0);
+    let direction = read(rt, &names.direction, LONGEST_GRID, &mut direction)?;
+    let cover = read(rt, &names.cover, LONGEST_GRID, &mut cover)?;
+    let group = read(rt, &names.group, LONGEST_GRID, &mut group)?;
+    let water = read(rt, &names.water, LONGEST_GRID, &mut water)?;
+    let covers = read(rt, &names.covers, LONGEST_OTHER, &mut covers)?;
+    let weather = read(rt, &names.weather, LONGEST_OTHER, &mut weather)?;
+    match desk::setup_text(direction, cover, group, water, covers, weather, &mut output) {
+        Setup::Text(count) => Ok(intake::print(rt, "setup: standard output", &output[..count])?),
+        Setup::Wrong(fault) => Err(Wrong::Files(names, fault)),
     }
 }
 
 fn main(rt: HostRuntime) {
-    if !all_named(&rt) {
-        return;
-    }
-    let mut direction = grid_room();
-    let Input::Bytes(directions) = read(&rt, 0, LONGEST_GRID, &mut direction) else {
-        return;
-    };
-    let mut cover = grid_room();
-    let Input::Bytes(codes) = read(&rt, 1, LONGEST_GRID, &mut cover) else {
-        return;
-    };
-    let mut group = grid_room();
-    let Input::Bytes(groups) = read(&rt, 2, LONGEST_GRID, &mut group) else {
-        return;
-    };
-    let mut water = grid_room();
-    let Input::Bytes(waters) = read(&rt, 3, LONGEST_GRID, &mut water) else {
-        return;
-    };
-    let mut covers = intake::input_room();
-    let Input::Bytes(table) = read(&rt, 4, LONGEST_OTHER, &mut covers) else {
-        return;
-    };
-    let mut weather = intake::input_room();
-    let Input::Bytes(days) = read(&rt, 5, LONGEST_OTHER, &mut weather) else {
-        return;
-    };
-    let mut output = text_room();
-    match desk::setup_text(
-        &direction[..directions],
-        &cover[..codes],
-        &group[..groups],
-        &water[..waters],
-        &covers[..table],
-        &weather[..days],
-        &mut output,
-    ) {
-        Setup::Text(count) => print(&rt, &output[..count]),
-        Setup::Wrong(fault) => say_fault(&rt, fault),
+    match Names::given(&rt) {
+        Ok(names) => say(&rt, make(&rt, &names)),
+        Err(wrong) => say(&rt, Err(wrong)),
     }
 }

@@ -2,36 +2,36 @@
 // standard error says what, and no file is changed; else the sheet for a person is printed.
 #![tactic(auto)]
 
-mod files;
+mod folder;
 mod ground;
-mod labels;
 mod places;
 mod refusals;
 mod run;
-mod saying;
+mod setup;
 mod texts;
 mod weather_file;
 mod writing;
+mod wrong;
 
+use folder::Folder;
+use intake::{Name, argument_count, name_given, say};
 use run::sheet_of;
-use saying::say;
+use std::rt::Env;
+use wrong::Wrong;
 
 // The program's own name counts as an argument.
 const ARGUMENTS: usize = 2;
 
+fn folder_name(rt: &impl Env) -> Result<Name, Wrong<'static>> {
+    if argument_count(rt) != ARGUMENTS {
+        return Err(Wrong::Usage);
+    }
+    name_given(rt, 1).ok_or(Wrong::NoFolder)
+}
+
 fn main(rt: HostRuntime) {
-    if intake::argument_count(&rt) != ARGUMENTS {
-        say(&rt, b"usage: sheet FOLDER\n");
-        return;
+    match folder_name(&rt) {
+        Ok(name) => say(&rt, sheet_of(&rt, Folder(name.as_bytes()))),
+        Err(wrong) => say(&rt, Err(wrong)),
     }
-    let mut folder = intake::name_room();
-    let count = intake::argument(&rt, 1, &mut folder);
-    if count == 0 {
-        say(
-            &rt,
-            b"sheet: the folder's name is empty, or has more than 4096 bytes\n",
-        );
-        return;
-    }
-    sheet_of(&rt, &folder[..count]);
 }

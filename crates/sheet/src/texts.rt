@@ -1,226 +1,168 @@
-// The texts of the sheet's ten files, one behind another in a lent buffer. A text that does not fit ends past the buffer, and so does every text after it.
-ghost use Rattle.std.specs.Prelude.{◌*◌, ◌≤◌, length};
-
-use crate::places::least;
-use crate::weather_file::{SUMS, numbers_of};
+// The texts of the sheet's ten files, one behind another in a lent room. Where one does not fit, there are none.
+use crate::setup::{Outcome, Setup};
+use crate::writing::SheetFile;
 use grids::{GridVerdict, Header, write_inches};
 use map::put_map;
-use records::{Climate, Grid, MOST_CELLS, wide};
+use records::MOST_CELLS;
 use season::day_lines;
 use summary::put_sheet;
 
-// Where each of the ten texts begins, and where the last of them ends.
-pub(crate) const ENDS: usize = 11;
-
-// Past every buffer.
-const TOO_FAR: usize = 18446744073709551615;
-
-// Where so many bytes from a place on end.
-fn end_of(room: usize, at: usize, count: usize) -> usize {
-    if room < at {
-        return TOO_FAR;
-    }
-    if room - at < count {
-        return TOO_FAR;
-    }
-    at + count
+#[derive(Clone, Copy)]
+pub(crate) struct Texts<'a> {
+    recharge: &'a [u8],
+    evapotranspiration: &'a [u8],
+    outflow: &'a [u8],
+    interception: &'a [u8],
+    rejected: &'a [u8],
+    soil: &'a [u8],
+    snow: &'a [u8],
+    days: &'a [u8],
+    person: &'a [u8],
+    map: &'a [u8],
 }
 
-fn put_depths(texts: &mut [u8], at: usize, header: Header, units: &[u64]) -> usize {
-    if texts.len() < at {
-        return TOO_FAR;
-    }
-    let written = write_inches(header, units, &mut texts[at..]);
-    let verdict = written.verdict;
-    match verdict {
-        GridVerdict::Accepted => end_of(texts.len(), at, written.count),
-        GridVerdict::Refused(_) => TOO_FAR,
+// Each cell's sums, by their kind.
+#[derive(Clone, Copy)]
+struct Sums<'a> {
+    intercepted: &'a [u64],
+    outflow: &'a [u64],
+    evapotranspired: &'a [u64],
+    recharged: &'a [u64],
+    rejected: &'a [u64],
+}
+
+// A text that stands at the front of a room, and what is behind it.
+type Cut<'a> = (&'a [u8], &'a mut [u8]);
+
+impl<'a> Texts<'a> {
+    pub(crate) fn of(self, file: SheetFile) -> &'a [u8] {
+        match file {
+            SheetFile::Recharge => self.recharge,
+            SheetFile::Evapotranspiration => self.evapotranspiration,
+            SheetFile::Outflow => self.outflow,
+            SheetFile::Interception => self.interception,
+            SheetFile::Rejected => self.rejected,
+            SheetFile::Soil => self.soil,
+            SheetFile::Snow => self.snow,
+            SheetFile::Days => self.days,
+            SheetFile::Person => self.person,
+            SheetFile::Map => self.map,
+        }
     }
 }
 
-fn widened(cells: &[u32]) -> [u64; MOST_CELLS] {
-    let count = least(cells.len(), MOST_CELLS);
+impl<'a> Sums<'a> {
+    // The sums of all cells stand kind by kind.
+    fn by_kind(sums: &'a [u64], cells: usize) -> Option<Sums<'a>> {
+        let (intercepted, rest) = sums.split_at_checked(cells)?;
+        let (outflow, rest) = rest.split_at_checked(cells)?;
+        let (evapotranspired, rest) = rest.split_at_checked(cells)?;
+        let (recharged, rest) = rest.split_at_checked(cells)?;
+        let (rejected, _) = rest.split_at_checked(cells)?;
+        Some(Sums {
+            intercepted,
+            outflow,
+            evapotranspired,
+            recharged,
+            rejected,
+        })
+    }
+}
+
+fn cut(room: &mut [u8], count: usize) -> Option<Cut<'_>> {
+    let (text, rest) = room.split_at_mut_checked(count)?;
+    Some((text, rest))
+}
+
+fn put_depths<'a>(room: &'a mut [u8], header: Header, units: &[u64]) -> Option<Cut<'a>> {
+    let written = write_inches(header, units, room);
+    match written.verdict {
+        GridVerdict::Accepted => cut(room, written.count),
+        GridVerdict::Refused(_) => None,
+    }
+}
+
+fn put_store<'a>(room: &'a mut [u8], header: Header, store: &[u32]) -> Option<Cut<'a>> {
     let mut units = [0u64; MOST_CELLS];
-    let mut i = 0;
-    while i < count {
-        units[i] = wide(cells[i]);
-        i += 1;
+    for (unit, &depth) in units.iter_mut().zip(store) {
+        *unit = u64::from(depth);
     }
-    units
+    put_depths(room, header, &units[..store.len().min(MOST_CELLS)])
 }
 
-fn put_store(texts: &mut [u8], at: usize, header: Header, store: &[u32]) -> usize {
-    let units = widened(store);
-    let count = least(store.len(), MOST_CELLS);
-    put_depths(texts, at, header, &units[..count])
-}
-
-fn put_days(texts: &mut [u8], at: usize, days: &[i32], totals: &[u64]) -> usize {
-    if texts.len() < at {
-        return TOO_FAR;
-    }
-    let count = day_lines(days, totals, &mut texts[at..]);
-    end_of(texts.len(), at, count)
-}
-
-// The sums stand by kind: all cells' intercepted, then outflow, evapotranspired, recharged and rejected. Answers where the last of the five grids ends, and each of
-// the others.
-fn put_sums(texts: &mut [u8], header: Header, cells: usize, sums: &[u64]) -> [usize; ENDS]
-    requires { 5 * cells ≤ length sums.now }
-{
-    let none = 0;
-    let two = 2 * cells;
-    let three = 3 * cells;
-    let four = 4 * cells;
-    let five = 5 * cells;
-    let mut ends = [0usize; ENDS];
-    ends[1] = put_depths(texts, 0, header, &sums[three..four]);
-    ends[2] = put_depths(texts, ends[1], header, &sums[two..three]);
-    ends[3] = put_depths(texts, ends[2], header, &sums[cells..two]);
-    ends[4] = put_depths(texts, ends[3], header, &sums[none..cells]);
-    ends[5] = put_depths(texts, ends[4], header, &sums[four..five]);
-    ends
+fn put_days<'a>(room: &'a mut [u8], outcome: &Outcome<'_>) -> Option<Cut<'a>> {
+    let count = day_lines(outcome.days, outcome.totals, room);
+    cut(room, count)
 }
 
 // The recharge of each cell, in words and as a picture.
-fn put_person(
-    texts: &mut [u8],
-    at: usize,
-    grid: Grid,
-    climate: Climate,
-    covers: &[u32],
-    direction: &[u32],
-    cover: &[u32],
-    group: &[u32],
-    stored: u64,
-    days: &[i32],
-    totals: &[u64],
+fn put_person<'a>(
+    room: &'a mut [u8],
+    setup: &Setup<'_>,
+    outcome: &Outcome<'_>,
     recharged: &[u64],
-) -> usize {
-    if texts.len() < at {
-        return TOO_FAR;
-    }
+) -> Option<Cut<'a>> {
     let count = put_sheet(
-        &mut texts[at..],
-        grid,
-        climate,
-        covers,
-        direction,
-        cover,
-        group,
-        stored,
-        days,
-        totals,
+        room,
+        setup.grid,
+        setup.climate,
+        setup.covers,
+        setup.direction,
+        setup.cover,
+        setup.group,
+        outcome.stored_at_start,
+        outcome.days,
+        outcome.totals,
         recharged,
     );
-    end_of(texts.len(), at, count)
+    cut(room, count)
 }
 
-fn put_picture(
-    texts: &mut [u8],
-    at: usize,
-    grid: Grid,
-    covers: &[u32],
-    direction: &[u32],
-    cover: &[u32],
+fn put_picture<'a>(
+    room: &'a mut [u8],
+    setup: &Setup<'_>,
+    outcome: &Outcome<'_>,
     recharged: &[u64],
-    days: &[i32],
-) -> usize {
-    if texts.len() < at {
-        return TOO_FAR;
-    }
+) -> Option<Cut<'a>> {
     let count = put_map(
-        &mut texts[at..],
-        grid,
-        covers,
-        direction,
-        cover,
+        room,
+        setup.grid,
+        setup.covers,
+        setup.direction,
+        setup.cover,
         recharged,
-        days,
+        outcome.days,
     );
-    end_of(texts.len(), at, count)
+    cut(room, count)
 }
 
-// What stands behind the five sums.
-fn put_rest(
-    texts: &mut [u8],
-    sums: [usize; ENDS],
-    header: Header,
-    grid: Grid,
-    climate: Climate,
-    covers: &[u32],
-    direction: &[u32],
-    cover: &[u32],
-    group: &[u32],
-    stored: u64,
-    days: &[i32],
-    totals: &[u64],
-    recharged: &[u64],
-    soil: &[u32],
-    snow: &[u32],
-) -> [usize; ENDS] {
-    let mut ends = sums;
-    ends[6] = put_store(texts, ends[5], header, soil);
-    ends[7] = put_store(texts, ends[6], header, snow);
-    ends[8] = put_days(texts, ends[7], days, totals);
-    ends[9] = put_person(
-        texts, ends[8], grid, climate, covers, direction, cover, group, stored, days, totals,
-        recharged,
-    );
-    ends[10] = put_picture(
-        texts, ends[9], grid, covers, direction, cover, recharged, days,
-    );
-    ends
-}
-
-fn recharged_in(cells: usize, sums: &[u64]) -> &[u64]
-    requires { 5 * cells ≤ length sums.now }
-{
-    let three = 3 * cells;
-    let four = 4 * cells;
-    &sums[three..four]
-}
-
-pub(crate) fn put_texts(
-    texts: &mut [u8],
-    header: Header,
-    grid: Grid,
-    climate: Climate,
-    covers: &[u32],
-    direction: &[u32],
-    cover: &[u32],
-    group: &[u32],
-    stored: u64,
-    count: usize,
-    days: &[i32],
-    totals: &[u64],
-    sums: &[u64],
-    soil: &[u32],
-    snow: &[u32],
-) -> [usize; ENDS] {
-    let cells = direction.len();
-    if sums.len() / SUMS < cells {
-        return [TOO_FAR; ENDS];
-    }
-    let none = 0;
-    let lent = numbers_of(count, days.len());
-    let held = numbers_of(count, totals.len());
-    let ends = put_sums(texts, header, cells, sums);
-    put_rest(
-        texts,
-        ends,
-        header,
-        grid,
-        climate,
-        covers,
-        direction,
-        cover,
-        group,
-        stored,
-        &days[none..lent],
-        &totals[none..held],
-        recharged_in(cells, sums),
+pub(crate) fn put_texts<'a>(
+    room: &'a mut [u8],
+    setup: &Setup<'_>,
+    outcome: &Outcome<'_>,
+) -> Option<Texts<'a>> {
+    let header = setup.header;
+    let sums = Sums::by_kind(outcome.sums, setup.cells())?;
+    let (recharge, room) = put_depths(room, header, sums.recharged)?;
+    let (evapotranspiration, room) = put_depths(room, header, sums.evapotranspired)?;
+    let (outflow, room) = put_depths(room, header, sums.outflow)?;
+    let (interception, room) = put_depths(room, header, sums.intercepted)?;
+    let (rejected, room) = put_depths(room, header, sums.rejected)?;
+    let (soil, room) = put_store(room, header, outcome.soil)?;
+    let (snow, room) = put_store(room, header, outcome.snow)?;
+    let (days, room) = put_days(room, outcome)?;
+    let (person, room) = put_person(room, setup, outcome, sums.recharged)?;
+    let (map, _) = put_picture(room, setup, outcome, sums.recharged)?;
+    Some(Texts {
+        recharge,
+        evapotranspiration,
+        outflow,
+        interception,
+        rejected,
         soil,
         snow,
-    )
+        days,
+        person,
+        map,
+    })
 }

@@ -1,197 +1,83 @@
 // The weather of a folder, and the library's run over it.
 ghost use Rattle.std.specs.Prelude.{◌≤◌};
 
-use crate::files::read;
-use crate::places::least;
-use crate::refusals::{say_cut_off, say_refusal, say_weather_word};
-use crate::saying::say_of;
-use recharge::period;
-use records::{Climate, Grid, Verdict};
+use crate::folder::{Folder, Source};
+use crate::ground::read_front;
+use crate::refusals::{DAY_NUMBERS, bad_weather_word, cut_off, refusal_of};
+use crate::setup::Setup;
+use crate::wrong::{What, Wrong};
 use season::{WeatherError, read_days};
 use std::rt::Files;
 
-#[derive(Clone, Copy)]
-pub(crate) enum Worked {
-    // So many days, all of them accepted.
-    Days(usize),
-    // Something is wrong, and was said.
-    Wrong,
+// What a run is worked out in.
+#[derive(Drop)]
+pub(crate) struct Lent<'a> {
+    pub(crate) days: &'a mut [i32],
+    pub(crate) totals: &'a mut [u64],
+    pub(crate) sums: &'a mut [u64],
+    pub(crate) soil: &'a mut [u32],
+    pub(crate) snow: &'a mut [u32],
 }
 
 const LONGEST_WEATHER: usize = 524288;
 
-// A byte more, so that a longer file shows by its length.
-const WEATHER_ROOM: usize = 524289;
-
-const DAY_NUMBERS: usize = 7;
-
 // Of each cell.
-pub(crate) const SUMS: usize = 5;
+const SUMS: usize = 5;
 
-// How many numbers so many days have, as far as there is room.
-pub(crate) fn numbers_of(days: usize, room: usize) -> usize
-    ensures { result ≤ room }
-{
-    if room / DAY_NUMBERS < days {
-        return room;
-    }
-    DAY_NUMBERS * days
-}
-
-// How many sums so many cells have, as far as there is room.
-fn sums_of(cells: usize, room: usize) -> usize
-    ensures { result ≤ room }
-{
-    if room / SUMS < cells {
-        return room;
-    }
-    SUMS * cells
-}
-
-// The run over all days, from the fresh state on.
-fn run_over(
-    rt: &impl Eprint,
-    folder: &[u8],
-    weather: &[u8],
-    grid: Grid,
-    climate: Climate,
-    covers: &[u32],
-    direction: &[u32],
-    cover: &[u32],
-    group: &[u32],
-    water: &[u32],
-    count: usize,
-    days: &[i32],
-    soil: &mut [u32],
-    snow: &mut [u32],
-    sums: &mut [u64],
-    totals: &mut [u64],
-) -> Worked {
-    let run = period(
-        grid, climate, covers, direction, cover, group, water, days, soil, snow, sums, totals,
-    );
-    let verdict = run.verdict;
-    match verdict {
-        Verdict::Accepted => Worked::Days(count),
-        Verdict::Refused(why) => {
-            say_refusal(
-                rt, folder, grid, covers, direction, cover, group, weather, run.days, why,
-            );
-            Worked::Wrong
-        }
-    }
-}
-
-// Whether the weather's numbers are whole days. What is wrong with them is said.
-fn days_in(rt: &impl Eprint, folder: &[u8], weather: &[u8], days: &mut [i32]) -> Worked {
+// How many days the weather has, if its numbers are whole days.
+fn days_in<'a>(folder: Folder<'a>, weather: &[u8], days: &mut [i32]) -> Result<usize, Wrong<'a>> {
     match read_days(weather, days) {
-        Ok(count) => Worked::Days(count),
-        Err(WeatherError::BadWord(place)) => {
-            say_weather_word(rt, folder, weather, place);
-            Worked::Wrong
-        }
-        Err(WeatherError::CutOff(count)) => {
-            say_cut_off(rt, folder, weather, count);
-            Worked::Wrong
-        }
-        Err(WeatherError::TooMany(_)) => {
-            say_of(rt, folder, b"weather.txt", b": more than 20000 days\n");
-            Worked::Wrong
-        }
+        Ok(count) => Ok(count),
+        Err(WeatherError::BadWord(place)) => Err(bad_weather_word(folder, weather, place)),
+        Err(WeatherError::CutOff(count)) => Err(cut_off(folder, weather, count)),
+        Err(WeatherError::TooMany(_)) => Err(Wrong::At(folder.source(Source::Weather), What::TooManyDays)),
     }
 }
 
-// The run over the text of the weather.
-fn run_text(
-    rt: &impl Eprint,
-    folder: &[u8],
-    weather: &[u8],
-    grid: Grid,
-    climate: Climate,
-    covers: &[u32],
-    direction: &[u32],
-    cover: &[u32],
-    group: &[u32],
-    water: &[u32],
-    days: &mut [i32],
-    soil: &mut [u32],
-    snow: &mut [u32],
-    sums: &mut [u64],
-    totals: &mut [u64],
-) -> Worked {
-    let Worked::Days(count) = days_in(rt, folder, weather, days) else {
-        return Worked::Wrong;
-    };
-    let none = 0;
-    let lent = numbers_of(count, days.len());
-    let held = numbers_of(count, totals.len());
-    let summed = sums_of(direction.len(), sums.len());
-    run_over(
-        rt,
-        folder,
-        weather,
-        grid,
-        climate,
-        covers,
-        direction,
-        cover,
-        group,
-        water,
-        count,
-        &days[none..lent],
-        soil,
-        snow,
-        &mut sums[none..summed],
-        &mut totals[none..held],
-    )
+// How many numbers so many have, as many each, as far as there is room.
+fn numbers_of(count: usize, each: usize, room: usize) -> usize
+    ensures { result ≤ room }
+{
+    count.saturating_mul(each).min(room)
 }
 
-// Reads the weather to a lent room, and runs over it.
-pub(crate) fn run_weather(
-    rt: &(impl Files + Eprint),
-    folder: &[u8],
-    grid: Grid,
-    climate: Climate,
-    covers: &[u32],
-    direction: &[u32],
-    cover: &[u32],
-    group: &[u32],
-    water: &[u32],
-    days: &mut [i32],
-    soil: &mut [u32],
-    snow: &mut [u32],
-    sums: &mut [u64],
-    totals: &mut [u64],
+// The days' numbers, and their totals, are as many.
+pub(crate) fn day_numbers(days: usize, room: usize) -> usize
+    ensures { result ≤ room }
+{
+    numbers_of(days, DAY_NUMBERS, room)
+}
+
+// Reads the weather to a lent room, and runs over it: how many days it has, all of them accepted.
+pub(crate) fn run_weather<'a>(
+    rt: &impl Files,
+    folder: Folder<'a>,
+    setup: &Setup<'_>,
+    lent: Lent<'_>,
     room: &mut [u8],
-) -> Worked {
-    let none = 0;
-    let end = least(WEATHER_ROOM, room.len());
-    let found = read(
-        rt,
-        folder,
-        b"weather.txt",
-        LONGEST_WEATHER,
-        &mut room[none..end],
-    );
-    if !found.whole {
-        return Worked::Wrong;
-    }
-    let bytes = least(found.count, room.len());
-    run_text(
-        rt,
-        folder,
-        &room[none..bytes],
-        grid,
-        climate,
-        covers,
-        direction,
-        cover,
-        group,
-        water,
+) -> Result<usize, Wrong<'a>> {
+    let Lent {
         days,
+        totals,
+        sums,
         soil,
         snow,
-        sums,
-        totals,
-    )
+    } = lent;
+    let place = folder.source(Source::Weather);
+    let (weather, _) = read_front(rt, place, LONGEST_WEATHER, room)?;
+    let count = days_in(folder, weather, days)?;
+    let numbers = day_numbers(count, days.len());
+    let held = day_numbers(count, totals.len());
+    let summed = numbers_of(setup.cells(), SUMS, sums.len());
+    let run = setup.run(
+        &days[..numbers],
+        soil,
+        snow,
+        &mut sums[..summed],
+        &mut totals[..held],
+    );
+    match run.verdict {
+        Verdict::Accepted => Ok(count),
+        Verdict::Refused(why) => Err(refusal_of(folder, setup, weather, run.days, why)),
+    }
 }

@@ -1,19 +1,14 @@
 // The program's arguments: the cell, and the serial of a day where one is given.
+use crate::wrong::Wrong;
+use records::index_of;
 use std::rt::Env;
 use words::{Meaning, number};
 
-// The days that are asked about.
+// The cell that is asked about, on the day with a serial, or else on every day.
 #[derive(Clone, Copy)]
-pub(crate) enum Wanted {
-    Every,
-    Serial(u32),
-}
-
-#[derive(Clone, Copy)]
-pub(crate) enum Asked {
-    Cell(u32, Wanted),
-    // What was asked is wrong, and that was said.
-    Wrong,
+pub(crate) struct Question {
+    pub(crate) cell: usize,
+    pub(crate) serial: Option<u32>,
 }
 
 // Room for a number, and to see that a longer word is none.
@@ -24,53 +19,34 @@ const WITH_CELL: usize = 2;
 
 const WITH_SERIAL: usize = 3;
 
-impl Wanted {
-    pub(crate) fn is(self, serial: u32) -> bool {
-        match self {
-            Wanted::Every => true,
-            Wanted::Serial(wanted) => serial == wanted,
+// An argument's number.
+fn number_at(rt: &impl Env, i: usize) -> Option<u32> {
+    let word = intake::argument::<WORD>(rt, i)?;
+    match number(word.as_bytes()) {
+        Meaning::Plain(number) => Some(number),
+        Meaning::Below(_) => None,
+        Meaning::Bad => None,
+    }
+}
+
+impl Question {
+    pub(crate) fn asked(rt: &impl Env) -> Result<Question, Wrong> {
+        let count = intake::argument_count(rt);
+        if (count < WITH_CELL) | (WITH_SERIAL < count) {
+            return Err(Wrong::Usage);
         }
-    }
-
-    pub(crate) fn is_one_day(self) -> bool {
-        match self {
-            Wanted::Every => false,
-            Wanted::Serial(_) => true,
+        let cell = index_of(number_at(rt, 1).ok_or(Wrong::Cell)?);
+        if count < WITH_SERIAL {
+            return Ok(Question { cell, serial: None });
         }
+        let serial = number_at(rt, 2).ok_or(Wrong::Serial)?;
+        Ok(Question {
+            cell,
+            serial: Some(serial),
+        })
     }
-}
 
-fn complain(rt: &impl Eprint, words: &[u8]) {
-    intake::say(rt, words);
-}
-
-// An argument's number. One that is missing, or longer than any number, is the empty word, which means none.
-fn argument(rt: &impl Env, i: usize) -> Meaning {
-    let mut word = [0u8; WORD];
-    let count = intake::argument(rt, i, &mut word);
-    number(&word[..count])
-}
-
-fn serial_wanted(rt: &(impl Env + Eprint), cell: u32) -> Asked {
-    let Meaning::Plain(serial) = argument(rt, 2) else {
-        complain(rt, b"why: the serial is no number of 1 to 9 digits\n");
-        return Asked::Wrong;
-    };
-    Asked::Cell(cell, Wanted::Serial(serial))
-}
-
-pub(crate) fn read_arguments(rt: &(impl Env + Eprint)) -> Asked {
-    let count = intake::argument_count(rt);
-    if (count < WITH_CELL) | (WITH_SERIAL < count) {
-        complain(rt, b"usage: why CELL [SERIAL] < TEXT\n");
-        return Asked::Wrong;
+    pub(crate) fn is_about(self, serial: u32) -> bool {
+        self.serial.is_none_or(|asked| asked == serial)
     }
-    let Meaning::Plain(cell) = argument(rt, 1) else {
-        complain(rt, b"why: the cell is no number of 1 to 9 digits\n");
-        return Asked::Wrong;
-    };
-    if count < WITH_SERIAL {
-        return Asked::Cell(cell, Wanted::Every);
-    }
-    serial_wanted(rt, cell)
 }

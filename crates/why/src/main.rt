@@ -5,19 +5,21 @@
 mod arguments;
 mod printing;
 mod run;
+mod wrong;
 
-use arguments::{Asked, read_arguments};
-use intake::Input;
-use records::index_of;
+use arguments::Question;
 use run::run;
+use std::io::Input;
+use std::rt::Env;
+use wrong::Wrong;
+
+fn answer(rt: &(impl Env + Input + Print + Eprint)) -> Result<(), Wrong> {
+    let question = Question::asked(rt)?;
+    let mut input = intake::input_room();
+    let count = intake::read_input(rt, "why: standard input", &mut input)?;
+    run(rt, &input[..count], question)
+}
 
 fn main(rt: HostRuntime) {
-    let Asked::Cell(cell, wanted) = read_arguments(&rt) else {
-        return;
-    };
-    let mut input = intake::input_room();
-    let Input::Bytes(count) = intake::read_input(&rt, b"why: standard input", &mut input) else {
-        return;
-    };
-    run(&rt, &input[..count], index_of(cell), wanted);
+    intake::say(&rt, answer(&rt));
 }

@@ -1,127 +1,203 @@
 // The run: from a text taken up to the lines of its days.
+ghost use Rattle.std.specs.Prelude.{◌≤◌, length};
 ghost use Rattle.text.specs.Run.{Complete};
+ghost use Rattle.explained.specs.Telling.{Inside};
 
-use crate::arguments::Wanted;
-use crate::printing::{Progress, print_end, print_refusal, print_refused, show};
-use explained::{MOST_LINES, explain_day};
-use lines::MOST_NUMBERS;
-use records::{Climate, Grid, MOST_CELLS, Past, Verdict};
+use crate::arguments::Question;
+use crate::printing::{print, print_end, print_refusal, print_refused};
+use crate::wrong::Wrong;
+use explained::{Explained, MOST_LINES, explain_day};
+use intake::{Failure, say};
+use lines::{MOST_NUMBERS, Told};
+use records::{Climate, DayRecord, Grid, MOST_CELLS, Past, Start, Verdict};
 use text::{
     FRONT_NUMBERS, Layout, Taken, climate_in, covers_in, day_in, directions_in, grid_in, groups_in,
     take_up, waters_in,
 };
 
-// Prints the lines of the days asked about, each as soon as it is worked out, and the last line.
-fn days(
-    rt: &(impl Print + Eprint),
-    numbers: &[u32],
-    from: usize,
-    count: usize,
+// What the days are run over.
+#[derive(Clone, Copy)]
+struct Setup<'a> {
     grid: Grid,
     climate: Climate,
-    covers: &[u32],
-    direction: &[u32],
-    cover: &[u32],
-    group: &[u32],
-    water: &[u32],
+    covers: &'a [u32],
+    direction: &'a [u32],
+    cover: &'a [u32],
+    group: &'a [u32],
+    water: &'a [u32],
+}
+
+// The text's numbers, and where its days stand among them.
+#[derive(Clone, Copy)]
+struct Days<'a> {
+    numbers: &'a [u32],
+    from: usize,
+    count: usize,
+}
+
+impl Setup<'_> {
+    fn fresh(&self, soil: &mut [u32], snow: &mut [u32]) -> Start {
+        recharge::fresh(
+            self.grid,
+            self.climate,
+            self.covers,
+            self.direction,
+            self.cover,
+            self.group,
+            self.water,
+            soil,
+            snow,
+        )
+    }
+
+    // What the day tells lies within its buffer. The stores stand apart here and below: in a struct, tried, their being lent together has no proof.
+    fn explain(
+        &self,
+        soil: &mut [u32],
+        snow: &mut [u32],
+        past: Past,
+        day: DayRecord,
+        cell: usize,
+        lines: &mut [u8; MOST_LINES],
+    ) -> Explained
+        ensures { Inside result.told (length lines.new) }
+    {
+        explain_day(
+            self.grid,
+            self.climate,
+            self.covers,
+            self.direction,
+            self.cover,
+            self.group,
+            self.water,
+            soil,
+            snow,
+            past,
+            day,
+            cell,
+            lines,
+        )
+    }
+}
+
+// Prints the last line, and sees that the day asked about was there. A failed write is said before that.
+fn finish(rt: &(impl Print + Eprint), shown: u64, question: Question) -> Result<(), Wrong> {
+    let printed = print_end(rt, shown);
+    match question.serial {
+        Some(serial) if shown == 0 => {
+            say(rt, printed);
+            Err(Wrong::NoDay(serial))
+        }
+        _ => Ok(printed?),
+    }
+}
+
+// Prints the lines of the days asked about, each as soon as it is worked out, and the last line. A refused day, and the one day asked about, end the run.
+fn tell_days(
+    rt: &(impl Print + Eprint),
+    setup: &Setup<'_>,
+    days: Days<'_>,
     soil: &mut [u32],
     snow: &mut [u32],
-    past: Past,
-    cell: usize,
-    wanted: Wanted,
-) {
+    start: Past,
+    question: Question,
+) -> Result<(), Wrong> {
     let mut lines = [0u8; MOST_LINES];
-    let mut past = past;
-    let mut progress = Progress {
-        shown: 0,
-        goes_on: true,
-        ends: true,
-    };
-    let mut k = 0;
-    while (k < count) & progress.goes_on {
-        let day = day_in(numbers, from, k);
-        let explained = explain_day(
-            grid, climate, covers, direction, cover, group, water, soil, snow, past, day, cell,
-            &mut lines,
-        );
+    let mut past = start;
+    let mut shown = 0;
+    for k in 0..days.count {
+        let day = day_in(days.numbers, days.from, k);
+        let explained = setup.explain(soil, snow, past, day, question.cell, &mut lines);
         past = explained.past;
-        let told = explained.told;
-        progress = show(rt, progress, wanted, day.serial, told, &lines);
-        k += 1;
+        match explained.told {
+            Told::Last(end) => return Ok(print(rt, &lines[..end])?),
+            Told::More(end) => {
+                if question.is_about(day.serial) {
+                    print(rt, &lines[..end])?;
+                    shown += 1;
+                    if question.serial.is_some() {
+                        break;
+                    }
+                }
+            }
+        }
     }
-    print_end(rt, progress, wanted);
+    finish(rt, shown, question)
 }
 
 // The fresh state, tested with the cell asked about, and the days from it on.
 fn begun(
     rt: &(impl Print + Eprint),
-    numbers: &[u32],
-    layout: Layout,
-    covers: &[u32],
-    direction: &[u32],
-    cover: &[u32],
-    group: &[u32],
-    water: &[u32],
+    setup: &Setup<'_>,
+    days: Days<'_>,
     soil: &mut [u32],
     snow: &mut [u32],
-    cell: usize,
-    wanted: Wanted,
-) {
-    let from = layout.days_from;
-    let count = layout.days;
-    let grid = grid_in(numbers);
-    let climate = climate_in(numbers);
-    let start = recharge::fresh(
-        grid, climate, covers, direction, cover, group, water, soil, snow,
-    );
-    let verdict = start.verdict;
-    let past = start.past;
-    match reasons::asked(verdict, grid, cell) {
-        Verdict::Refused(why) => print_refusal(rt, why),
-        Verdict::Accepted => days(
-            rt, numbers, from, count, grid, climate, covers, direction, cover, group, water, soil,
-            snow, past, cell, wanted,
-        ),
+    question: Question,
+) -> Result<(), Wrong> {
+    let start = setup.fresh(soil, snow);
+    match reasons::asked(start.verdict, setup.grid, question.cell) {
+        Verdict::Refused(why) => Ok(print_refusal(rt, why)?),
+        Verdict::Accepted => tell_days(rt, setup, days, soil, snow, start.past, question),
     }
 }
 
+// No more than the arrays hold.
+fn cells_in(numbers: &[u32], layout: Layout) -> usize
+    requires { Complete numbers.now layout }
+    ensures { result ≤ 4096 }
+{
+    layout.cells
+}
+
 // Numbers that are ready for the run.
-fn started(rt: &(impl Print + Eprint), numbers: &[u32], layout: Layout, cell: usize, wanted: Wanted)
+fn started(
+    rt: &(impl Print + Eprint),
+    numbers: &[u32],
+    layout: Layout,
+    question: Question,
+) -> Result<(), Wrong>
     requires { Complete numbers.now layout }
 {
-    let front = FRONT_NUMBERS;
-    let from = layout.cells_from;
-    let cells = layout.cells;
+    let cells = cells_in(numbers, layout);
     let direction = directions_in(numbers);
     let cover = covers_in(numbers);
     let group = groups_in(numbers);
     let water = waters_in(numbers);
+    let setup = Setup {
+        grid: grid_in(numbers),
+        climate: climate_in(numbers),
+        covers: &numbers[FRONT_NUMBERS..layout.cells_from],
+        direction: &direction[..cells],
+        cover: &cover[..cells],
+        group: &group[..cells],
+        water: &water[..cells],
+    };
+    let days = Days {
+        numbers,
+        from: layout.days_from,
+        count: layout.days,
+    };
     let mut soil = [0u32; MOST_CELLS];
     let mut snow = [0u32; MOST_CELLS];
     begun(
         rt,
-        numbers,
-        layout,
-        &numbers[front..from],
-        &direction[..cells],
-        &cover[..cells],
-        &group[..cells],
-        &water[..cells],
+        &setup,
+        days,
         &mut soil[..cells],
         &mut snow[..cells],
-        cell,
-        wanted,
-    );
+        question,
+    )
 }
 
 // A text from its first byte on.
-pub(crate) fn run(rt: &(impl Print + Eprint), input: &[u8], cell: usize, wanted: Wanted) {
+pub(crate) fn run(
+    rt: &(impl Print + Eprint),
+    input: &[u8],
+    question: Question,
+) -> Result<(), Wrong> {
     let mut numbers = [0u32; MOST_NUMBERS];
     match take_up(input, &mut numbers) {
-        Taken::Refused(number, place) => print_refused(rt, number, place),
-        Taken::Ready(layout) => {
-            let count = layout.numbers;
-            started(rt, &numbers[..count], layout, cell, wanted);
-        }
+        Taken::Refused(number, place) => Ok(print_refused(rt, number, place)?),
+        Taken::Ready(layout) => started(rt, &numbers[..layout.numbers], layout, question),
     }
 }

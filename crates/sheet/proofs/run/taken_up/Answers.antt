@@ -1,14 +1,19 @@
 -- `run::taken_up` meets its contract: numbers that are ready are complete.
 use Rattle.std.proofs.Common.{ℕ}
-use Rattle.std.proofs.lemmas.List.{length-replicate}
-use Rattle.text.proofs.TakingLaws.{ready_text}
+use lib.ListN.{length-replicate}
+use Rattle.text.proofs.TakingLaws.{ReadyText, ready_text}
+use Rattle.sheet.proofs.run.taken_up.Goals.{In-Ready}
 use Rattle.sheet.proofs.run.taken_up.Goals as goal
 
+-- what a text that is ready has
+ready : (g : _) (c : In-Ready g) → ReadyText c.args.ground.text.now c.take_up.new.numbers c.in-Ready.layout
+ready g c = ready_text _ _ _ _ _ (length-replicate {A = ℕ} 32768 0) c.take_up.ensures c.in-Ready.is
+
 pub slice_bounds-numbers-end : goal.slice_bounds-numbers-end
-slice_bounds-numbers-end g c = (ready_text _ _ _ _ _ (length-replicate {A = ℕ} 32768 0) c.take_up.ensures c.in-Ready.is).room
+slice_bounds-numbers-end g c = (ready g (goal.at.slice_bounds-numbers-end g c).In-Ready).room
 
 pub slice_bounds-started-end : goal.slice_bounds-started-end
-slice_bounds-started-end g c = (ready_text _ _ _ _ _ (length-replicate {A = ℕ} 32768 0) c.take_up.ensures c.in-Ready.is).counted
+slice_bounds-started-end g c = (ready g (goal.at.slice_bounds-started-end g c).In-Ready).counted
 
 pub started-requires : goal.started-requires
-started-requires g c = (ready_text _ _ _ _ _ (length-replicate {A = ℕ} 32768 0) c.take_up.ensures c.in-Ready.is).complete
+started-requires g c = (ready g (goal.at.started-requires g c).In-Ready).complete

@@ -6,7 +6,7 @@ use Rattle.why.proofs.run.run.Goals.{In-Ready}
 use Rattle.why.proofs.run.run.Goals as goal
 
 -- what a text that is ready has
-ready : (g : _) (c : goal.In-Ready g) → ReadyText c.args.input.now c.take_up.new.numbers c.in-Ready.layout
+ready : (g : _) (c : In-Ready g) → ReadyText c.args.input.now c.take_up.new.numbers c.in-Ready.layout
 ready g c = ready_text _ _ _ _ _ (length-replicate {A = ℕ} 32768 0) c.take_up.ensures c.in-Ready.is
 
 pub slice_bounds-numbers-end : goal.slice_bounds-numbers-end

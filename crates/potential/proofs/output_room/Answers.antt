@@ -1,7 +1,0 @@
--- `potential::output_room` meets its contract: a repeat has its own length, and the list is too long to be counted by computing.
-use Rattle.std.proofs.Common.{ℕ, sym}
-use Rattle.std.proofs.lemmas.List.{length-replicate}
-use Rattle.potential.proofs.output_room.Goals as goal
-
-pub returns : goal.returns
-returns c = sym (length-replicate {A = ℕ} 1310720 0)

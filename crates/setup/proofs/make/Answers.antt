@@ -1,0 +1,10 @@
+-- `make` meets its contract: the text that is printed lies within its buffer.
+use Rattle.std.proofs.Common.{sym, length-take-le}
+use Rattle.desk.proofs.AnswerLaws.{text_within}
+use Rattle.setup.proofs.make.Goals as goal
+
+pub slice_bounds-output-end : goal.slice_bounds-output-end
+slice_bounds-output-end g c = text_within _ _ _ _ _ c.setup_text.ensures c.in-Text.is
+
+pub slice_bounds-print-end-in-Text : goal.slice_bounds-print-end-in-Text
+slice_bounds-print-end-in-Text g c = sym (length-take-le _ _ (text_within _ _ _ _ _ c.setup_text.ensures c.in-Text.is))

@@ -1,9 +1,0 @@
--- `places::start_of` ends: each turn counts one word.
-use Rattle.std.proofs.Common.{◌-◌, ◌≤◌}
-use Rattle.sheet.proofs.places.start_of.Given as goal
-
-abbrev pub invariant-loop-k : goal.invariant-loop-k
-invariant-loop-k l = l.k ≤ l.count
-
-abbrev pub decreases-loop-k : goal.decreases-loop-k
-decreases-loop-k l = l.count - l.k

@@ -1,7 +1,0 @@
--- `output_room` has as many bytes as it says: the list is too long to be counted by computing.
-use Rattle.std.proofs.Common.{ℕ, sym}
-use Rattle.std.proofs.lemmas.List.{length-replicate}
-use Rattle.vectors.proofs.output_room.Goals as goal
-
-pub returns : goal.returns
-returns c = sym (length-replicate {A = ℕ} 786461 7)
