@@ -4,8 +4,8 @@ use mathlib.Core.Path.{ap}
 use Prim.Native.Nat.{ℕ, ◌+◌, ◌≤◌}
 use native.Mathlib.Numerals.{add-one}
 use native.Mathlib.Omega.{arith}
-use lib.IntN.{ℤ, pos}
-use lib.ListN.{length, get_or}
+use lib.IntN.{ℤ}
+use lib.ListN.{length}
 use mir.Syntax.{w32}
 use mir.Val.{SFits}
 use Rattle.paper.specs.Setup.{Grid, cells_of}
@@ -33,22 +33,15 @@ line_put direction cover group water long hd hc hg hw d c g w =
     put_as _ (put_then long (put_then long (put_then long (cell_put direction 32 hd d) (cell_put cover 32 hc c)) (cell_put group 32 hg g)) (cell_put water 10 hw w))
     (simp append_assoc)
 
--- a line of the machine's signed numbers
-pub signed :
-    {at r : ℕ} {l l' : List ℕ} (direction cover group water : ℤ) → SFits w32 direction → SFits w32 cover → SFits w32 group → SFits w32 water
-    → Put at (line_of (read direction) (read cover) (read group) (read water)) l l' r
-    → Put at (line_of direction cover group water) l l' r
-signed direction cover group water hd hc hg hw w = rw (whole direction hd, whole cover hc, whole group hg, whole water hw) at w
-
 module _ (cells : Cells) where
   pub lines_none : (at : ℕ) (l : List ℕ) → at ≤ farthest → Put at (cell_lines cells 0) l l at
   unfolding cell_lines
   lines_none at l h = put_none at l h
 
   pub lines_more :
-      {at mid r : ℕ} {l l₁ l₂ : List ℕ} (i : ℕ) → length l ≤ farthest → Put at (cell_lines cells i) l l₁ mid → Put mid (line_of (get_or cells.direction i (pos 0)) (get_or cells.cover i (pos 0)) (get_or cells.group i (pos 0)) (get_or cells.water i (pos 0))) l₁ l₂ r
+      {at mid r : ℕ} {l l₁ l₂ : List ℕ} (i : ℕ) → length l ≤ farthest → Put at (cell_lines cells i) l l₁ mid → Put mid (cell_line cells i) l₁ l₂ r
       → Put at (cell_lines cells (i + 1)) l l₂ r
-  unfolding cell_lines cell_line
+  unfolding cell_lines
   lines_more i long w v = rw (add-one i) (put_then long w v)
 
   pub lines_all : {at r : ℕ} {l l' : List ℕ} (i count : ℕ) → i ≤ count → count ≤ i → Put at (cell_lines cells i) l l' r → Put at (cell_lines cells count) l l' r

@@ -3,6 +3,7 @@ use Rattle.std.specs.Prelude.{List, [], ◌∷◌, ◌++◌, ℕ, zero, suc, ℤ
 use Rattle.paper.specs.Setup.{Grid, cells_of}
 use Rattle.words.specs.Digits.{digits, written}
 use Rattle.grids.specs.Reading.{header_read, cells_read}
+use Rattle.desk.specs.declared.texts.Cells as lent
 
 pub record Files : Type 0 where
   pub direction : List ℕ
@@ -25,6 +26,10 @@ pub record Cells : Type 0 where
 
 abbrev pub cells_by : List ℤ → List ℤ → List ℤ → List ℤ → Cells
 cells_by direction cover group water = record { direction = direction; cover = cover; group = group; water = water }
+
+-- as the code lends them
+abbrev pub cells_as : lent.Cells → Cells
+cells_as c = cells_by c.direction.now c.cover.now c.group.now c.water.now
 
 -- a cell's four numbers, parted by single spaces
 unfoldable pub line_of : ℤ → ℤ → ℤ → ℤ → List ℕ

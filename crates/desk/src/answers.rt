@@ -3,13 +3,13 @@ ghost use Rattle.std.specs.Prelude.{◌≤◌};
 ghost use Rattle.paper.specs.Limits.{most_cells};
 ghost use Rattle.paper.specs.Setup.{cells_of};
 ghost use Rattle.records.specs.Grids.{grid_as};
-ghost use Rattle.desk.specs.Texts.{files_by, cells_by, setup_text};
+ghost use Rattle.desk.specs.Texts.{files_by, cells_as, setup_text};
 ghost use Rattle.desk.specs.Answers.{Fitted, Sets};
 
 use crate::cover_file::is_cover_file;
 use crate::faults::Fault;
 use crate::sheets::test_grids;
-use crate::texts::put_text;
+use crate::texts::{Cells, put_text};
 use grids::read_grid;
 use records::{Grid, MOST_CELLS};
 
@@ -17,38 +17,24 @@ use records::{Grid, MOST_CELLS};
 fn write_text(
     grid: Grid,
     covers: &[u8],
-    direction: &[i32; MOST_CELLS],
-    cover: &[i32; MOST_CELLS],
-    group: &[i32; MOST_CELLS],
-    water: &[i32; MOST_CELLS],
+    cells: Cells,
     weather: &[u8],
     output: &mut [u8],
 ) -> Result<usize, Fault>
     requires { cells_of (grid_as grid) ≤ most_cells }
-    ensures { Fitted (setup_text (grid_as grid) covers.now (cells_by direction.now cover.now group.now water.now) weather.now)
+    ensures { Fitted (setup_text (grid_as grid) covers.now (cells_as cells.entry) weather.now)
         output.old output.new result }
 {
-    let end = put_text(
-        &mut output[..0],
-        grid,
-        covers,
-        direction,
-        cover,
-        group,
-        water,
-        weather,
-    );
+    let end = put_text(&mut output[..0], grid, covers, cells, weather);
     if output.len() < end {
         return Err(Fault::TooLong(end));
     }
-    put_text(
-        output, grid, covers, direction, cover, group, water, weather,
-    );
+    put_text(output, grid, covers, cells, weather);
     Ok(end)
 }
 
-// What balance is to read of the desk's files: the grids of direction, cover, group and water, the cover file and the weather file. The text stands at the
-// front of the output: so many bytes.
+// What balance is to read of the desk's files: the grids of direction, cover, group and water, the cover file and the weather file. How many
+// bytes of it stand at the front of the output.
 pub fn setup_text(
     direction: &[u8],
     cover: &[u8],
@@ -76,10 +62,12 @@ pub fn setup_text(
     write_text(
         header.grid,
         covers,
-        &directions,
-        &codes,
-        &groups,
-        &waters,
+        Cells {
+            direction: &directions,
+            cover: &codes,
+            group: &groups,
+            water: &waters,
+        },
         weather,
         output,
     )

@@ -33,6 +33,7 @@ pub(crate) trait Cell: Copy {
 }
 
 // A number, and not the no-data number.
+#[tactic(auto, unfolding(crate::specs::Cells::cell_fits, crate::specs::Cells::is_same))]
 pub(crate) fn cell_fits(no_data: i32, cell: i32) -> bool
     ensures { result ≡ cell_fits no_data cell }
 {
@@ -108,6 +109,7 @@ pub(crate) fn passing<C: Cell>(no_data: i32, cells: &[C]) -> usize
 }
 
 // The blank after a cell by how many of its row's stand there with it, and how many of the row then do.
+#[tactic(auto, unfolding(crate::specs::Forms::blank_after))]
 fn blank_after(columns: usize, done: usize) -> u8
     ensures { result ≡ blank_after columns done }
 {
@@ -117,6 +119,7 @@ fn blank_after(columns: usize, done: usize) -> u8
     b' '
 }
 
+#[tactic(auto, unfolding(crate::specs::Forms::done_after))]
 fn done_after(columns: usize, done: usize) -> usize
     ensures { result ≡ done_after columns done }
 {

@@ -30,6 +30,7 @@ fn named(text: &[u8]) -> bool
         & named_at(text, 10, b"nodata_value")
 }
 
+#[tactic(auto, unfolding(crate::specs::Headers::values_in))]
 fn values(text: &[u8]) -> Header
     ensures { result ≡ header_in (values_in (words text.now)) }
 {
@@ -66,6 +67,7 @@ impl Header {
     }
 
     // What stands at a text's front; the empty header, where the names are others.
+    #[tactic(auto, unfolding(crate::specs::Headers::header_of))]
     pub(crate) fn in_text(text: &[u8]) -> Header
         ensures { result ≡ header_in (header_of (words text.now)) }
     {
@@ -75,6 +77,7 @@ impl Header {
         Header::none()
     }
 
+    #[tactic(auto, unfolding(crate::specs::Headers::header_fits))]
     pub fn fits(self) -> bool
         ensures { result ≡ header_fits (header_as self) }
     {

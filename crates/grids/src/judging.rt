@@ -28,6 +28,7 @@ impl BadGrid {
 }
 
 // By the header, the count of the cells before the first that is refused, the count of all, and whether the buffer is long enough.
+#[tactic(auto, unfolding(crate::specs::Judging::judged))]
 pub(crate) fn judged(
     header: Header,
     passing: usize,

@@ -28,6 +28,7 @@ fn all_digits(word: &[u8]) -> bool
 }
 
 // At least one.
+#[tactic(auto, using(crate::proofs::MeasureLaws::some_digits))]
 fn some_digits(word: &[u8]) -> bool
     ensures { result ≡ is_digits word.now }
 {
@@ -50,6 +51,7 @@ fn goes_on(word: &[u8]) -> bool
     true
 }
 
+#[tactic(auto, unfolding(crate::specs::Measures::is_unsigned))]
 fn is_unsigned(word: &[u8]) -> bool
     ensures { result ≡ is_unsigned word.now }
 {
@@ -59,6 +61,7 @@ fn is_unsigned(word: &[u8]) -> bool
     is_digit(*first) & goes_on(rest)
 }
 
+#[tactic(auto, unfolding(crate::specs::Measures::is_measure, crate::specs::Measures::without_minus, crate::specs::Measures::is_unsigned))]
 fn is_measure(word: &[u8]) -> bool
     ensures { result ≡ is_measure word.now }
 {
@@ -96,6 +99,7 @@ impl Measure {
     }
 
     // A word where a measure belongs.
+    #[tactic(auto, unfolding(crate::specs::Measures::measured, crate::specs::Measures::is_measure))]
     pub(crate) fn in_word(word: &[u8]) -> Measure
         ensures { result ≡ measure_in (measured word.now) }
     {

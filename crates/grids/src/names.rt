@@ -14,6 +14,7 @@ use words::{Span, next_word, number};
 // The small letters stand so far after the capitals.
 const TO_SMALL: u8 = 32;
 
+#[tactic(auto, unfolding(crate::specs::Headers::lower))]
 fn lower(b: u8) -> u8
     ensures { result ≡ lowerOf b }
 {

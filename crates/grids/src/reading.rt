@@ -24,6 +24,7 @@ struct Cells {
 const LAST_OF_HEADER: usize = 11;
 
 // One more passes, where all before it did.
+#[tactic(auto, unfolding(crate::specs::Cells::passing_with))]
 fn passed(passing: usize, count: usize, fits: bool) -> usize
     requires { passing < farthest }
     ensures { result ≡ passing_with passing count fits }

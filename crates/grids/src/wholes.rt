@@ -16,6 +16,7 @@ const MOST_WHOLE: i32 = 999999999;
 const NO_NUMBER: i32 = -1000000000;
 
 // At most nine digits.
+#[tactic(auto, unfolding(crate::specs::Headers::whole_fits))]
 pub(crate) fn whole_fits(z: i32) -> bool
     ensures { result ≡ whole_fits z }
 {

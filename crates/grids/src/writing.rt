@@ -78,6 +78,7 @@ fn write<C: Cell>(header: Header, cells: &[C], text: &mut [u8]) -> Result<usize,
 }
 
 // Whole numbers; how many bytes were written.
+#[tactic(auto, unfolding(crate::specs::Forms::whole_verdict))]
 pub fn write_grid(header: Header, cells: &[i32], text: &mut [u8]) -> Result<usize, BadGrid>
     ensures { Writes (whole_verdict (header_as header) cells.now (length text.old)) (whole_form (header_as header) cells.now)
         text.old text.new result }
@@ -86,6 +87,7 @@ pub fn write_grid(header: Header, cells: &[i32], text: &mut [u8]) -> Result<usiz
 }
 
 // Depths, in inches with four decimals; how many bytes were written.
+#[tactic(auto, unfolding(crate::specs::Forms::inches_verdict))]
 pub fn write_inches(header: Header, units: &[u64], text: &mut [u8]) -> Result<usize, BadGrid>
     ensures { Writes (inches_verdict (header_as header) units.now (length text.old)) (inches_form (header_as header) units.now)
         text.old text.new result }

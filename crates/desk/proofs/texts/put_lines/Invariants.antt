@@ -1,6 +1,6 @@
 use Rattle.words.specs.Writing.{Put}
-use Rattle.desk.specs.Texts.{cells_by, cell_lines}
+use Rattle.desk.specs.Texts.{cells_as, cell_lines}
 use Rattle.desk.proofs.texts.put_lines.Given as goal
 
-abbrev pub invariant-loop-i : goal.invariant-loop-i
-invariant-loop-i l = Put l.at (cell_lines (cells_by l.direction l.cover l.group l.water) l.i) l.initial.buffer l.buffer l.next
+abbrev pub invariant-loop-cell : goal.invariant-loop-cell
+invariant-loop-cell l = Put l.at (cell_lines (cells_as l.cells) l.cell) l.initial.buffer l.buffer l.next

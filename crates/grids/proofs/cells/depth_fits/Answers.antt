@@ -6,8 +6,5 @@ use Rattle.grids.proofs.cells.depth_fits.Goals as goal
 pub returns-then-no_data-lt0 : goal.returns-then-no_data-lt0
 returns-then-no_data-lt0 c = depth_below _ _ c.ranges.no_data c.if-no_data-lt0.true
 
-pub overflow_mul-result : goal.overflow_mul-result
-overflow_mul-result c = record { fits = omega (arith, c.magnitude.ensures.1) }
-
 pub returns : goal.returns
 returns c = depth_plain _ _ _ c.ranges.no_data c.if-no_data-lt0.false c.magnitude.ensures.0

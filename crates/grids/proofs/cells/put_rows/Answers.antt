@@ -4,22 +4,10 @@ use Rattle.words.proofs.WritingLaws.{wrote_length}
 use Rattle.grids.proofs.FormLaws.{laid_none, laid_next, laid_all}
 use Rattle.grids.proofs.cells.put_rows.Goals as goal
 
-pub loop-cell-init : goal.loop-cell-init
-loop-cell-init g c = laid_none _ _ _ _ _ _ (omega arith)
-
-pub overflow_add-done : goal.overflow_add-done
-overflow_add-done g c = record { fits = omega (arith, c.loop-cell.invariant.few, c.loop-cell-test.true) }
-
-pub overflow_add-done-in-loop-cell : goal.overflow_add-done-in-loop-cell
-overflow_add-done-in-loop-cell g c = record { fits = omega (arith, c.loop-cell.invariant.few, c.loop-cell-test.true) }
-
 pub loop-cell-preserved : goal.loop-cell-preserved
 loop-cell-preserved g c =
     laid_next _ _ _ _ _ _ _ _ _ _ c.loop-cell.invariant c.cell-item.result _ _ _ _ (omega arith) c.loop-cell-test.true c.blank_after.ensures c.done_after-done.ensures
     (rw c.cell-item.is at c.put-next.ensures)
-
-pub shape_of-buffer : goal.shape_of-buffer
-shape_of-buffer g c = wrote_length c.loop-cell.invariant.wrote
 
 pub returns : goal.returns
 returns g c = laid_all _ _ _ _ _ _ _ _ _ _ c.loop-cell.invariant c.loop-cell-test.false

@@ -7,12 +7,6 @@ use Rattle.grids.proofs.names.is_name.Goals as goal
 pub returns-then-word-name : goal.returns-then-word-name
 returns-then-word-name c = sym (other_length _ _ (λ e. c.if-word-name.true (sym (lowered_length _) ∙ e)))
 
-pub loop-i-init : goal.loop-i-init
-loop-i-init c = (c.if-word-name.false, refl)
-
-pub bounds-name-i : goal.bounds-name-i
-bounds-name-i c = omega (arith, c.loop-i-test.true, c.loop-i.invariant.0)
-
 pub returns-then-lower-name : goal.returns-then-lower-name
 returns-then-lower-name c =
     let a = c.args in

@@ -7,6 +7,3 @@ loop-init c = word_first _ _ _ c.next_word-word.ensures
 
 pub loop-preserved : goal.loop-preserved
 loop-preserved c = word_then _ _ _ _ _ _ c.loop.invariant c.next_word-word-in-loop.ensures
-
-pub returns : goal.returns
-returns c = word_last _ _ _ _ _ c.loop.auto.counter-end c.loop-test.false c.loop.invariant

@@ -9,19 +9,11 @@ use Rattle.grids.proofs.reading.scan.Goals as goal
 pub loop-word-init : goal.loop-word-init
 loop-word-init c = counted_first _ _ _ _ _ c.next_word-word.ensures
 
-pub slice_bounds-whole-end : goal.slice_bounds-whole-end
-slice_bounds-whole-end c = c.loop-word.invariant.onward.inside c.loop-word-test.true
-
 pub passed-passing-requires : goal.passed-passing-requires
 passed-passing-requires c = omega (arith, c.loop-word.invariant.few, counted_most _ _ _ _ _ _ _ c.loop-word.invariant)
 
 pub overflow_add-count : goal.overflow_add-count
 overflow_add-count c = record { fits = omega (arith, counted_most _ _ _ _ _ _ _ c.loop-word.invariant) }
-
-pub loop-word-smaller : goal.loop-word-smaller
-loop-word-smaller c =
-    let more = c.loop-word-test.true in
-    omega (arith, c.next_word-word-in-loop-word.ensures.forward, c.loop-word.invariant.onward.inside more, more)
 
 pub loop-word-preserved : goal.loop-word-preserved
 loop-word-preserved c =
