@@ -4,15 +4,15 @@
 
 use intake::{Failure, filled};
 use std::io::Input;
-use text::{MOST_TEXT, Written};
+use text::MOST_TEXT;
 
 fn run(rt: &(impl Input + Print)) -> Result<(), Failure> {
     let mut input = intake::input_room();
     let count = intake::read_input(rt, "balance: standard input", &mut input)?;
     let mut output = filled::<u8, MOST_TEXT>(0);
     match text::balance_text(&input[..count], &mut output) {
-        Written::Bytes(end) => intake::print(rt, "balance: standard output", &output[..end]),
-        Written::NoRoom => Ok(()),
+        Some(end) => intake::print(rt, "balance: standard output", &output[..end]),
+        None => Ok(()),
     }
 }
 

@@ -3,8 +3,7 @@
 #![tactic(auto)]
 
 use records::{
-    Answer, Climate, DayRecord, Depth, FrostIndex, Grid, Past, Season, Setpoints, TenthF, Totals,
-    Verdict,
+    Climate, DayRecord, Depth, FrostIndex, Grid, Past, Refusal, Season, Setpoints, TenthF, Totals,
 };
 use std::fmt;
 use std::fmt::{Display, Formatter};
@@ -42,7 +41,7 @@ const WATER: [u32; 2] = [200, 200];
 #[derive(Clone, Copy)]
 struct Line {
     serial: u32,
-    answer: Answer,
+    answer: Result<Totals, Refusal>,
 }
 
 // The two cells from day to day.
@@ -55,17 +54,16 @@ struct State {
 
 impl Display for Line {
     fn fmt<W: fmt::Write>(&self, f: &mut Formatter<W>) -> fmt::Result {
-        let Totals {
-            gross,
-            intercepted,
-            evapotranspired,
-            recharged,
-            rejected,
-            gone,
-            stored,
-        } = self.answer.totals;
-        match self.answer.verdict {
-            Verdict::Accepted => write!(
+        match self.answer {
+            Ok(Totals {
+                gross,
+                intercepted,
+                evapotranspired,
+                recharged,
+                rejected,
+                gone,
+                stored,
+            }) => write!(
                 f,
                 "{} {} {} {} {} {} {} {}",
                 self.serial,
@@ -77,16 +75,16 @@ impl Display for Line {
                 gone.0,
                 stored.0
             ),
-            Verdict::Refused(why) => write!(f, "refused {} at {}", why.number(), why.place()),
+            Err(why) => write!(f, "refused {} at {}", why.number(), why.place()),
         }
     }
 }
 
 impl State {
-    fn fresh() -> State {
+    fn fresh() -> Result<State, Refusal> {
         let mut soil = [0, 0];
         let mut snow = [0, 0];
-        let start = recharge::fresh(
+        let past = recharge::fresh(
             GRID,
             CLIMATE,
             &COVERS,
@@ -96,12 +94,8 @@ impl State {
             &WATER,
             &mut soil,
             &mut snow,
-        );
-        State {
-            soil,
-            snow,
-            past: start.past,
-        }
+        )?;
+        Ok(State { soil, snow, past })
     }
 
     // One day of the two cells. What each cell gives besides its stores is in the totals, and is not looked at.
@@ -130,16 +124,17 @@ impl State {
             &mut [0, 0],
             &mut [0, 0],
             &mut [0, 0],
-            self.past,
+            &mut self.past,
             record,
         );
-        self.past = answer.past;
         Line { serial, answer }
     }
 }
 
 fn main(rt: HostRuntime) {
-    let mut state = State::fresh();
+    let Ok(mut state) = State::fresh() else {
+        return;
+    };
     for (serial, day_of_year, gross) in [(1, 150, 30900), (2, 151, 0), (2, 152, 0)] {
         let _ = rt.println(state.day(serial, day_of_year, gross));
     }

@@ -1,7 +1,7 @@
 // Days of one cell that drains over the edge.
 use records::{
-    Climate, DayRecord, Depth, FrostIndex, Grid, Last, Memory, Past, Refusal, Season, Setpoints,
-    TenthF, Verdict,
+    Climate, DayRecord, Depth, FrostIndex, Grid, Memory, Past, Refusal, Season, Setpoints,
+    TenthF,
 };
 
 pub(crate) const CLIMATE: Climate = Climate {
@@ -68,7 +68,7 @@ pub(crate) fn remembered(yesterday: u64, frost: u64) -> Past {
     };
     Past {
         memory,
-        last: Last::Never,
+        last: None,
         frost: FrostIndex(frost),
     }
 }
@@ -102,7 +102,8 @@ impl Cell {
         let mut soil = [self.soil];
         let mut snow = [self.snow];
         let mut outflow = [0];
-        let answer = recharge::day(
+        let mut past = past;
+        recharge::day(
             ONE_CELL,
             CLIMATE,
             &covers,
@@ -117,17 +118,14 @@ impl Cell {
             &mut [0],
             &mut [0],
             &mut [0],
-            past,
+            &mut past,
             day,
-        );
-        match answer.verdict {
-            Verdict::Refused(why) => Err(why),
-            Verdict::Accepted => Ok(Cell {
-                outflow: outflow[0],
-                soil: soil[0],
-                snow: snow[0],
-                frost: answer.past.frost.0,
-            }),
-        }
+        )?;
+        Ok(Cell {
+            outflow: outflow[0],
+            soil: soil[0],
+            snow: snow[0],
+            frost: past.frost.0,
+        })
     }
 }

@@ -43,7 +43,7 @@ const FULL: Trial = Trial {
     frost: 0,
 };
 
-// The paper's number and place of the day's refusal.
+// The paper's number and place of the day's refusal, 0 and 0 where the day is accepted.
 fn tried(rt: &impl Print, trial: Trial)
     requires { (trial.directions ≤ 3) × (trial.soils ≤ 3) × (trial.results ≤ 3) }
 {
@@ -51,6 +51,7 @@ fn tried(rt: &impl Print, trial: Trial)
     let direction = [1, 0, 0];
     let mut soil = [trial.soil[0], trial.soil[1], 0];
     let mut rejected = [0, 0, 0];
+    let mut past = remembered(trial.yesterday, trial.frost);
     let answer = recharge::day(
         TWO_CELLS,
         CLIMATE,
@@ -66,11 +67,14 @@ fn tried(rt: &impl Print, trial: Trial)
         &mut [0, 0],
         &mut [0, 0],
         &mut rejected[..trial.results],
-        remembered(trial.yesterday, trial.frost),
+        &mut past,
         weather(0, MILD, 0),
     );
-    let verdict = answer.verdict;
-    let _ = println!(rt; "refused {} {}", verdict.number(), verdict.place());
+    let (number, place) = match answer {
+        Ok(_) => (0, 0),
+        Err(why) => (why.number(), why.place()),
+    };
+    let _ = println!(rt; "refused {number} {place}");
 }
 
 fn lent(rt: &impl Print, directions: usize, soils: usize, results: usize)

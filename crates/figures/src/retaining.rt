@@ -38,7 +38,7 @@ pub(crate) fn capacity(rt: &impl Print, water: u32, root: u32) {
         3, 0, 75, 75, 75, 75, 0, 0, 0, 0, 0, 0, root, root, root, root,
     ];
     let mut soil = [0];
-    recharge::fresh(
+    let _ = recharge::fresh(
         ONE_CELL,
         CLIMATE,
         &covers,

@@ -5,7 +5,6 @@
 mod files;
 mod wrong;
 
-use desk::Setup;
 use files::{Names, read};
 use intake::{filled, input_room, say};
 use std::rt::Files;
@@ -34,8 +33,8 @@ fn make<'a>(rt: &(impl Files + Print), names: &'a Names) -> Result<(), Wrong<'a>
     let covers = read(rt, &names.covers, LONGEST_OTHER, &mut covers)?;
     let weather = read(rt, &names.weather, LONGEST_OTHER, &mut weather)?;
     match desk::setup_text(direction, cover, group, water, covers, weather, &mut output) {
-        Setup::Text(count) => Ok(intake::print(rt, "setup: standard output", &output[..count])?),
-        Setup::Wrong(fault) => Err(Wrong::Files(names, fault)),
+        Ok(count) => Ok(intake::print(rt, "setup: standard output", &output[..count])?),
+        Err(fault) => Err(Wrong::Files(names, fault)),
     }
 }
 

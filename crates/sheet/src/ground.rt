@@ -3,7 +3,7 @@ ghost use Rattle.intake.specs.Input.{Within};
 
 use crate::folder::{Folder, Place, Source};
 use crate::wrong::{Measure, What, Wrong};
-use desk::{Fault, Setup};
+use desk::Fault;
 use grids::{Header, read_grid};
 use intake::Unread;
 use records::MOST_CELLS;
@@ -26,7 +26,7 @@ const NO_DATA: i32 = -9999;
 // What is written has the header of the grids, but a depth could equal a number for no data that is not below zero.
 fn written_header(direction: &[u8]) -> Header {
     let mut cells = [0i32; MOST_CELLS];
-    let mut header = read_grid(direction, &mut cells).header;
+    let mut header = read_grid(direction, &mut cells).unwrap_or(Header::none());
     if 0 <= header.no_data {
         header.no_data = NO_DATA;
     }
@@ -96,10 +96,10 @@ pub(crate) fn read_ground<'a, 't>(
     let (water, room) = read_front(rt, folder.source(Source::Water), LONGEST_GRID, room)?;
     let (covers, _) = read_front(rt, folder.source(Source::Covers), LONGEST_COVERS, room)?;
     match desk::setup_text(direction, cover, group, water, covers, b"", text) {
-        Setup::Text(count) => Ok(Ground {
+        Ok(count) => Ok(Ground {
             text: &text[..count],
             header: written_header(direction),
         }),
-        Setup::Wrong(fault) => Err(faulty(folder, fault)),
+        Err(fault) => Err(faulty(folder, fault)),
     }
 }

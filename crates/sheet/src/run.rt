@@ -16,7 +16,7 @@ use lines::MOST_NUMBERS;
 use records::MOST_CELLS;
 use std::rt::Files;
 use text::{
-    FRONT_NUMBERS, Layout, Taken, climate_in, covers_in, directions_in, grid_in, groups_in,
+    FRONT_NUMBERS, Layout, climate_in, covers_in, directions_in, grid_in, groups_in,
     take_up, waters_in,
 };
 
@@ -122,8 +122,8 @@ fn taken_up<'a>(
     let Ground { text, header } = ground;
     let mut numbers = [0u32; MOST_NUMBERS];
     match take_up(text, &mut numbers) {
-        Taken::Refused(_, place) => Err(bad_cover_word(folder, text, place as usize)),
-        Taken::Ready(layout) => {
+        Err(bad) => Err(bad_cover_word(folder, text, bad.place as usize)),
+        Ok(layout) => {
             started(rt, folder, header, &numbers[..layout.numbers], layout, room)
         }
     }

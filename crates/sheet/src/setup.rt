@@ -45,7 +45,7 @@ impl Setup<'_> {
         let mut soil = [0u32; MOST_CELLS];
         let mut snow = [0u32; MOST_CELLS];
         let cells = self.cells().min(MOST_CELLS);
-        recharge::fresh(
+        let _ = recharge::fresh(
             self.grid,
             self.climate,
             self.covers,

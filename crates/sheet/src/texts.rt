@@ -1,7 +1,7 @@
 // The texts of the sheet's ten files, one behind another in a lent room. Where one does not fit, there are none.
 use crate::setup::{Outcome, Setup};
 use crate::writing::SheetFile;
-use grids::{GridVerdict, Header, write_inches};
+use grids::{Header, write_inches};
 use map::put_map;
 use records::MOST_CELLS;
 use season::day_lines;
@@ -75,11 +75,8 @@ fn cut(room: &mut [u8], count: usize) -> Option<Cut<'_>> {
 }
 
 fn put_depths<'a>(room: &'a mut [u8], header: Header, units: &[u64]) -> Option<Cut<'a>> {
-    let written = write_inches(header, units, room);
-    match written.verdict {
-        GridVerdict::Accepted => cut(room, written.count),
-        GridVerdict::Refused(_) => None,
-    }
+    let count = write_inches(header, units, room).ok()?;
+    cut(room, count)
 }
 
 fn put_store<'a>(room: &'a mut [u8], header: Header, store: &[u32]) -> Option<Cut<'a>> {

@@ -77,7 +77,7 @@ pub(crate) fn run_weather<'a>(
         &mut totals[..held],
     );
     match run.verdict {
-        Verdict::Accepted => Ok(count),
-        Verdict::Refused(why) => Err(refusal_of(folder, setup, weather, run.days, why)),
+        Ok(()) => Ok(count),
+        Err(why) => Err(refusal_of(folder, setup, weather, run.days, why)),
     }
 }

@@ -8,7 +8,7 @@ use intake::{Reason, filled};
 use std::fs;
 use std::io::Read;
 use std::rt::Files;
-use text::{MOST_TEXT, Written};
+use text::MOST_TEXT;
 
 // A proved loop has to end, and nothing says that a file does: so many vectors and no more.
 const MOST_VECTORS: u64 = 100000;
@@ -103,7 +103,7 @@ struct Rooms {
 
 // Whether the text function agrees on one input.
 fn agrees(input: &[u8], wanted: &[u8], output: &mut [u8]) -> bool {
-    let Written::Bytes(used) = text::balance_text(input, output) else {
+    let Some(used) = text::balance_text(input, output) else {
         return false;
     };
     output.get(..used).is_some_and(|found| same(found, wanted))
@@ -115,8 +115,8 @@ fn is_left_alone(buffer: &mut [u8]) -> bool {
         return false;
     };
     match text::balance_text(b"1 1 1 1", short) {
-        Written::Bytes(_) => false,
-        Written::NoRoom => short.iter().all(|&byte| byte == UNTOUCHED),
+        Some(_) => false,
+        None => short.iter().all(|&byte| byte == UNTOUCHED),
     }
 }
 

@@ -2,7 +2,7 @@
 use crate::wrong::Wrong;
 use records::index_of;
 use std::rt::Env;
-use words::{Meaning, number};
+use words::number;
 
 // The cell that is asked about, on the day with a serial, or else on every day.
 #[derive(Clone, Copy)]
@@ -22,11 +22,7 @@ const WITH_SERIAL: usize = 3;
 // An argument's number.
 fn number_at(rt: &impl Env, i: usize) -> Option<u32> {
     let word = intake::argument::<WORD>(rt, i)?;
-    match number(word.as_bytes()) {
-        Meaning::Plain(number) => Some(number),
-        Meaning::Below(_) => None,
-        Meaning::Bad => None,
-    }
+    u32::try_from(number(word.as_bytes())?).ok()
 }
 
 impl Question {

@@ -6,12 +6,13 @@ ghost use Rattle.explained.specs.Telling.{Inside};
 use crate::arguments::Question;
 use crate::printing::{print, print_end, print_refusal, print_refused};
 use crate::wrong::Wrong;
-use explained::{Explained, MOST_LINES, explain_day};
+use explained::{MOST_LINES, explain_day};
 use intake::{Failure, say};
-use lines::{MOST_NUMBERS, Told};
-use records::{Climate, DayRecord, Grid, MOST_CELLS, Past, Start, Verdict};
+use lines::MOST_NUMBERS;
+use records::{Climate, DayRecord, Grid, MOST_CELLS, Past, Refusal};
+use std::ops::ControlFlow;
 use text::{
-    FRONT_NUMBERS, Layout, Taken, climate_in, covers_in, day_in, directions_in, grid_in, groups_in,
+    BadText, FRONT_NUMBERS, Layout, climate_in, covers_in, day_in, directions_in, grid_in, groups_in,
     take_up, waters_in,
 };
 
@@ -36,7 +37,7 @@ struct Days<'a> {
 }
 
 impl Setup<'_> {
-    fn fresh(&self, soil: &mut [u32], snow: &mut [u32]) -> Start {
+    fn fresh(&self, soil: &mut [u32], snow: &mut [u32]) -> Result<Past, Refusal> {
         recharge::fresh(
             self.grid,
             self.climate,
@@ -55,12 +56,12 @@ impl Setup<'_> {
         &self,
         soil: &mut [u32],
         snow: &mut [u32],
-        past: Past,
+        past: &mut Past,
         day: DayRecord,
         cell: usize,
         lines: &mut [u8; MOST_LINES],
-    ) -> Explained
-        ensures { Inside result.told (length lines.new) }
+    ) -> ControlFlow<usize, usize>
+        ensures { Inside result (length lines.new) }
     {
         explain_day(
             self.grid,
@@ -107,11 +108,9 @@ fn tell_days(
     let mut shown = 0;
     for k in 0..days.count {
         let day = day_in(days.numbers, days.from, k);
-        let explained = setup.explain(soil, snow, past, day, question.cell, &mut lines);
-        past = explained.past;
-        match explained.told {
-            Told::Last(end) => return Ok(print(rt, &lines[..end])?),
-            Told::More(end) => {
+        match setup.explain(soil, snow, &mut past, day, question.cell, &mut lines) {
+            ControlFlow::Break(end) => return Ok(print(rt, &lines[..end])?),
+            ControlFlow::Continue(end) => {
                 if question.is_about(day.serial) {
                     print(rt, &lines[..end])?;
                     shown += 1;
@@ -125,7 +124,19 @@ fn tell_days(
     finish(rt, shown, question)
 }
 
-// The fresh state, tested with the cell asked about, and the days from it on.
+// The fresh state, tested with the cell asked about.
+fn fresh(
+    setup: &Setup<'_>,
+    cell: usize,
+    soil: &mut [u32],
+    snow: &mut [u32],
+) -> Result<Past, Refusal> {
+    let fresh = setup.fresh(soil, snow);
+    reasons::asked(fresh.map(|_| ()), setup.grid, cell)?;
+    fresh
+}
+
+// It, and the days from it on.
 fn begun(
     rt: &(impl Print + Eprint),
     setup: &Setup<'_>,
@@ -134,10 +145,9 @@ fn begun(
     snow: &mut [u32],
     question: Question,
 ) -> Result<(), Wrong> {
-    let start = setup.fresh(soil, snow);
-    match reasons::asked(start.verdict, setup.grid, question.cell) {
-        Verdict::Refused(why) => Ok(print_refusal(rt, why)?),
-        Verdict::Accepted => tell_days(rt, setup, days, soil, snow, start.past, question),
+    match fresh(setup, question.cell, soil, snow) {
+        Err(why) => Ok(print_refusal(rt, why)?),
+        Ok(past) => tell_days(rt, setup, days, soil, snow, past, question),
     }
 }
 
@@ -197,7 +207,7 @@ pub(crate) fn run(
 ) -> Result<(), Wrong> {
     let mut numbers = [0u32; MOST_NUMBERS];
     match take_up(input, &mut numbers) {
-        Taken::Refused(number, place) => Ok(print_refused(rt, number, place)?),
-        Taken::Ready(layout) => started(rt, &numbers[..layout.numbers], layout, question),
+        Err(BadText { number, place }) => Ok(print_refused(rt, number, place)?),
+        Ok(layout) => started(rt, &numbers[..layout.numbers], layout, question),
     }
 }

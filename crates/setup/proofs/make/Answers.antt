@@ -4,7 +4,7 @@ use Rattle.desk.proofs.AnswerLaws.{text_within}
 use Rattle.setup.proofs.make.Goals as goal
 
 pub slice_bounds-output-end : goal.slice_bounds-output-end
-slice_bounds-output-end g c = text_within _ _ _ _ _ c.setup_text.ensures c.in-Text.is
+slice_bounds-output-end g c = text_within _ _ _ _ _ c.setup_text.ensures c.in-Ok.is
 
-pub slice_bounds-print-end-in-Text : goal.slice_bounds-print-end-in-Text
-slice_bounds-print-end-in-Text g c = sym (length-take-le _ _ (text_within _ _ _ _ _ c.setup_text.ensures c.in-Text.is))
+pub slice_bounds-print-end-in-Ok : goal.slice_bounds-print-end-in-Ok
+slice_bounds-print-end-in-Ok g c = sym (length-take-le _ _ (text_within _ _ _ _ _ c.setup_text.ensures c.in-Ok.is))

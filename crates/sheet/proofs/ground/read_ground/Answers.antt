@@ -4,4 +4,4 @@ use Rattle.desk.proofs.AnswerLaws.{text_within}
 use Rattle.sheet.proofs.ground.read_ground.Goals as goal
 
 pub slice_bounds-result-end : goal.slice_bounds-result-end
-slice_bounds-result-end g c = sym (length-take-le _ _ (text_within _ _ _ _ _ c.setup_text.ensures c.in-Text.is))
+slice_bounds-result-end g c = sym (length-take-le _ _ (text_within _ _ _ _ _ c.setup_text.ensures c.in-Ok.is))
