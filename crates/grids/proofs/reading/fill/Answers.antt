@@ -1,7 +1,7 @@
 -- `reading::fill` meets its contract: what is stored and what is left are all the cells.
-use Rattle.std.proofs.Common.{◌∙◌, arith}
+use Rattle.std.proofs.Common.{◌∙◌}
 use Rattle.grids.proofs.WholeLaws.{whole}
-use Rattle.grids.proofs.ScanLaws.{filled_first, filled_room, filled_next, filled_all}
+use Rattle.grids.proofs.ScanLaws.{filled_room, filled_next, filled_all}
 use Rattle.grids.proofs.reading.fill.Goals as goal
 
 pub bounds-cells-i : goal.bounds-cells-i
