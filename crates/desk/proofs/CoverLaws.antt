@@ -18,6 +18,3 @@ module _ (text : List ℕ) (count from start end : ℕ) (c : Counted text count 
 
   pub counted_few : start < end → 2 * (count + 1) ≤ length text + 1
   counted_few h = omega (arith, counted_next h, words_few text)
-
-  pub counted_all : end ≤ start → count ≡ length (words text)
-  counted_all h = omega (arith, c, ap length (next.none h))
