@@ -12,7 +12,7 @@ const LEAST_WHOLE: i32 = -999999999;
 
 const MOST_WHOLE: i32 = 999999999;
 
-// Below them all: what a word that is no number is read as.
+// Below them all: what a word that is no number is read as, by `whole_of`, so that such a cell is refused as one out of bounds is.
 const NO_NUMBER: i32 = -1000000000;
 
 // At most nine digits.

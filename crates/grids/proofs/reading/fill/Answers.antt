@@ -10,7 +10,7 @@ bounds-cells-i c = filled_room _ _ _ _ _ _ _ c.loop-word.invariant c.loop-word-t
 pub loop-word-preserved : goal.loop-word-preserved
 loop-word-preserved c =
     let more = c.loop-word-test.true in
-    filled_next _ _ _ _ _ _ _ c.loop-word.invariant more _ _ _ (whole _ (record { sfits = c.whole-cell.type_inv }) ∙ c.whole-cell.ensures) c.next_word-word-in-loop-word.ensures
+    filled_next _ _ _ _ _ _ _ c.loop-word.invariant more _ _ _ (whole _ (record { sfits = c.whole.type_inv }) ∙ c.whole.ensures) c.next_word-word-in-loop-word.ensures
 
 pub returns : goal.returns
 returns c = filled_all _ _ _ _ _ _ _ c.loop-word.invariant c.loop-word-test.false
