@@ -23,6 +23,7 @@ fn test_read(file: u32, grid: Result<Header, BadGrid>) -> Result<Header, Fault>
     grid.map_err(|bad| Fault::Refused(file, bad.place()))
 }
 
+// By its two numbers, since a Grid has no `==`.
 fn same_size(grid: Grid, first: Grid) -> bool
     ensures { result ≡ (eqb grid.width first.width && eqb grid.height first.height) }
 {
