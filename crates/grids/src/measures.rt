@@ -88,6 +88,7 @@ impl Measure {
         Measure { bytes, count }
     }
 
+    // No text, which `measured` gives for a word that is no measure, so it is no Option.
     #[tactic(auto, unfolding(crate::specs::Given::measure_in))]
     pub(crate) fn none() -> Measure
         ensures { result ≡ measure_in [] }

@@ -33,6 +33,7 @@ fn is_name(word: &[u8], name: &[u8]) -> bool
     true
 }
 
+// 0, and no Option, where a word is no number or one below zero, since `size_of` says so.
 fn size(word: &[u8]) -> u32
     ensures { result ≡ size_of (number_of word.now) }
 {
