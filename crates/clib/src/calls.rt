@@ -5,7 +5,7 @@ ghost use Rattle.clib.specs.Numbers.{returned};
 ghost use Rattle.clib.specs.Given.{setup_from, day_from};
 ghost use Rattle.clib.specs.Handed.{stores_from, results_from, begun, fresh_gives, handed, day_gives};
 
-use crate::given::{DayNumbers, Site, climate_of, grid_of, record_of};
+use crate::given::{DayNumbers, Site, record_of, setup_given};
 use crate::numbers::{refused_as, returned_as};
 use crate::state::{figures_of, keep, past_from};
 use records::Past;
@@ -21,9 +21,8 @@ pub fn recharge_check(
     ensures { result ≡ returned (check_of
         (setup_from site covers.now direction.now cover.now group.now available.now)) }
 {
-    let grid = grid_of(site);
-    let climate = climate_of(site);
-    returned_as(recharge::check(grid, climate, covers, direction, cover, group, available))
+    let setup = setup_given(site, covers, direction, cover, group, available);
+    returned_as(recharge::check(&setup))
 }
 
 pub fn recharge_fresh(
@@ -43,12 +42,8 @@ pub fn recharge_fresh(
         ≡ fresh_gives (setup_from site covers.now direction.now cover.now group.now available.now)
         soil.old snow.old }
 {
-    let grid = grid_of(site);
-    let climate = climate_of(site);
-    let fresh = recharge::fresh(
-        grid, climate, covers, direction, cover, group, available, soil, snow,
-    );
-    match fresh {
+    let setup = setup_given(site, covers, direction, cover, group, available);
+    match recharge::fresh(&setup, soil, snow) {
         Ok(past) => {
             keep(past, memory, last_serial, frost_index);
             0
@@ -88,17 +83,10 @@ pub fn recharge_day(
         (results_from intercepted.old outflow.old evapotranspired.old recharged.old rejected.old)
         (day_from day) }
 {
-    let grid = grid_of(site);
-    let climate = climate_of(site);
+    let setup = setup_given(site, covers, direction, cover, group, available);
     let mut past = past_from(memory, *last_serial, *frost_index);
     let answer = recharge::day(
-        grid,
-        climate,
-        covers,
-        direction,
-        cover,
-        group,
-        available,
+        &setup,
         soil,
         snow,
         intercepted,

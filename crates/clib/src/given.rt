@@ -1,12 +1,12 @@
 // What C hands over by value, number by number under its name.
 ghost use Rattle.std.specs.Prelude.{◌≡◌, ◌<◌};
-ghost use Rattle.records.specs.Grids.{grid_as, climate_as};
+ghost use Rattle.records.specs.Grids.{grid_as, climate_as, setup_of};
 ghost use Rattle.records.specs.Days.{day_as};
-ghost use Rattle.clib.specs.Given.{grid_from, climate_from, day_from};
+ghost use Rattle.clib.specs.Given.{grid_from, climate_from, setup_from, day_from};
 ghost use Rattle.clib.specs.Narrow.{narrow};
 
 use crate::numbers::{depth, index};
-use records::{Climate, DayRecord, Grid, Season, Setpoints, TenthF};
+use records::{Climate, DayRecord, Grid, Season, Setpoints, Setup, TenthF};
 
 // The grid's size and the climate.
 #[repr(C)]
@@ -32,7 +32,7 @@ pub struct DayNumbers {
     pub potential: u32,
 }
 
-pub fn grid_of(site: Site) -> Grid
+fn grid_of(site: Site) -> Grid
     ensures { grid_as result ≡ grid_from site }
 {
     Grid {
@@ -41,7 +41,7 @@ pub fn grid_of(site: Site) -> Grid
     }
 }
 
-pub fn climate_of(site: Site) -> Climate
+fn climate_of(site: Site) -> Climate
     ensures { climate_as result ≡ climate_from site }
 {
     let season = Season {
@@ -53,6 +53,28 @@ pub fn climate_of(site: Site) -> Climate
         second: index(site.second_setpoint),
     };
     Climate { season, setpoints }
+}
+
+// What C lends, as the library takes it.
+pub fn setup_given<'a>(
+    site: Site,
+    covers: &'a [u32],
+    direction: &'a [u32],
+    cover: &'a [u32],
+    group: &'a [u32],
+    available: &'a [u32],
+) -> Setup<'a>
+    ensures { setup_of result ≡ setup_from site covers.now direction.now cover.now group.now available.now }
+{
+    Setup {
+        grid: grid_of(site),
+        climate: climate_of(site),
+        covers,
+        direction,
+        cover,
+        group,
+        available,
+    }
 }
 
 pub(crate) fn record_of(day: DayNumbers) -> DayRecord

@@ -13,7 +13,7 @@ mod whys;
 
 pub use calls::{recharge_check, recharge_day, recharge_fresh};
 pub use estimates::{recharge_jensen_haise, recharge_turc};
-pub use given::{DayNumbers, Site, climate_of, grid_of};
+pub use given::{DayNumbers, Site, setup_given};
 pub use maps::{recharge_grid_inches, recharge_grid_read, recharge_grid_write};
 pub use numbers::returned_as;
 pub use texts::recharge_text;

@@ -6,7 +6,7 @@ ghost use Rattle.clib.specs.Given.{setup_from, day_from};
 ghost use Rattle.clib.specs.Handed.{stores_from, state_from};
 ghost use Rattle.clib.specs.Whys.{reason_list, explained, reason_given};
 
-use crate::given::{DayNumbers, Site, climate_of, grid_of, record_of};
+use crate::given::{DayNumbers, Site, record_of, setup_given};
 use crate::numbers::refused_as;
 use crate::state::past_from;
 use reasons::Why;
@@ -42,23 +42,9 @@ pub fn recharge_why(
         (setup_from site covers.now direction.now cover.now group.now available.now)
         (state_from (stores_from soil.now snow.now memory.now last_serial frost_index)) (day_from day) cell) }
 {
-    let grid = grid_of(site);
-    let climate = climate_of(site);
+    let setup = setup_given(site, covers, direction, cover, group, available);
     let past = past_from(memory, last_serial, frost_index);
-    let why = reasons::why(
-        grid,
-        climate,
-        covers,
-        direction,
-        cover,
-        group,
-        available,
-        soil,
-        snow,
-        past,
-        record_of(day),
-        index_of(cell),
-    );
+    let why = reasons::why(&setup, soil, snow, past, record_of(day), index_of(cell));
     match why {
         Ok(why) => {
             *reason = told(why);

@@ -2,7 +2,7 @@
 ghost use Rattle.clib.specs.Given.{setup_from};
 ghost use Rattle.cperiod.specs.Period.{PeriodGiven};
 
-use clib::{Site, climate_of, grid_of, returned_as};
+use clib::{Site, returned_as, setup_given};
 
 pub fn recharge_period(
     site: Site,
@@ -23,11 +23,8 @@ pub fn recharge_period(
         days.now soil.old snow.old sums.old totals.old
         soil.new snow.new sums.new totals.new accepted.new result }
 {
-    let grid = grid_of(site);
-    let climate = climate_of(site);
-    let ended = recharge::period(
-        grid, climate, covers, direction, cover, group, available, days, soil, snow, sums, totals,
-    );
+    let setup = setup_given(site, covers, direction, cover, group, available);
+    let ended = recharge::period(&setup, days, soil, snow, sums, totals);
     let count = ended.days;
     *accepted = count as u64;
     let verdict = ended.verdict;

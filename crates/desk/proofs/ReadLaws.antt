@@ -24,7 +24,7 @@ use Rattle.grids.specs.declared.headers.Header as code
 use Rattle.grids.specs.declared.judging.BadGrid.{BadGrid}
 use Rattle.std.specs.Prelude.{Result, Ok, Err}
 use Rattle.grids.proofs.AcceptedLaws.{Fit, fit, header_fit}
-use Rattle.grids.proofs.AnswerLaws.{header_back}
+use Rattle.grids.proofs.AnswerLaws.{header_back, reads_verdict}
 use Rattle.desk.specs.declared.faults.Fault.{Fault}
 use Rattle.desk.specs.declared.faults.Fault.TheVariants.{Size}
 use Rattle.desk.specs.Faults.{Tested, ◌then◌}
@@ -50,14 +50,9 @@ module _ (text : List ℕ) (yes : Accepted text) where
   few_cells = (header_fit (header_read text) fits.header).size
 
 -- ---- what a call to read hands back
-answer_says : {T : Type 0} (v : Verdict) (x : T) → verdict_as (answer_in v x) ≡ v
-unfolding answer_in
-answer_says accepted x = refl
-answer_says (refused place) x = refl
-
 module _ {text : List ℕ} {before after : List ℤ} {r : Result code.Header BadGrid} (room : length before ≡ most_cells) (read : Reads text before after r) where
   verdict_read : verdict_as r ≡ read_verdict text most_cells
-  verdict_read = rw room at (ap verdict_as read.answer ∙ answer_says _ _)
+  verdict_read = rw room at (reads_verdict read)
 
   module _ (yes : Accepted text) where
     sheet_read : sheet_as r ≡ sheet_of text

@@ -1,9 +1,7 @@
 -- What is written of the text, part after part.
 use mathlib.Core.List.{List, [], ◌∷◌, ◌++◌, append_assoc}
-use mathlib.Core.Path.{ap}
 use Prim.Native.Nat.{ℕ, ◌+◌, ◌≤◌}
 use native.Mathlib.Numerals.{add-one}
-use native.Mathlib.Omega.{arith}
 use lib.IntN.{ℤ}
 use lib.ListN.{length}
 use mir.Syntax.{w32}
@@ -43,9 +41,6 @@ module _ (cells : Cells) where
       → Put at (cell_lines cells (i + 1)) l l₂ r
   unfolding cell_lines
   lines_more i long w v = rw (add-one i) (put_then long w v)
-
-  pub lines_all : {at r : ℕ} {l l' : List ℕ} (i count : ℕ) → i ≤ count → count ≤ i → Put at (cell_lines cells i) l l' r → Put at (cell_lines cells count) l l' r
-  lines_all i count low high w = put_as _ w (ap (cell_lines cells) (omega arith))
 
 pub text_put :
     {a b c d e r : ℕ} {l l₁ l₂ l₃ l₄ l₅ l₆ : List ℕ} (grid : Grid) (covers : List ℕ) (cells : Cells) (weather : List ℕ) → length l ≤ farthest

@@ -17,6 +17,7 @@ const NUMBERS_PER_COVER: usize = 16;
 
 const MOST_COVERS: u32 = 64;
 
+// Word after word, which no iterator gives.
 fn word_count(text: &[u8]) -> usize
     ensures { result ≡ length (words text.now) }
 {

@@ -9,21 +9,21 @@ use crate::faults::Fault;
 use grids::{BadGrid, Header, Measure};
 use records::Grid;
 
+#[tactic(auto, using(crate::proofs::SheetLaws::same_pointwise))]
 fn same_text(text: Measure, other: Measure) -> bool
     ensures { result ≡ same (text_as text) (text_as other) }
 {
     text.text() == other.text()
 }
 
+#[tactic(auto, unfolding(crate::specs::Faults::headed, crate::specs::Sheets::test_read, grids::specs::Judging::grid_place))]
 fn test_read(file: u32, grid: Result<Header, BadGrid>) -> Result<Header, Fault>
     ensures { result ≡ headed (test_read file (verdict_as grid)) (header_told grid) }
 {
-    match grid {
-        Ok(header) => Ok(header),
-        Err(bad) => Err(Fault::Refused(file, bad.place())),
-    }
+    grid.map_err(|bad| Fault::Refused(file, bad.place()))
 }
 
+// By its two numbers, since a Grid has no `==`.
 fn same_size(grid: Grid, first: Grid) -> bool
     ensures { result ≡ (eqb grid.width first.width && eqb grid.height first.height) }
 {

@@ -3,7 +3,8 @@
 #![tactic(auto)]
 
 use records::{
-    Climate, DayRecord, Depth, FrostIndex, Grid, Past, Refusal, Season, Setpoints, TenthF, Totals,
+    Climate, DayRecord, Depth, FrostIndex, Grid, Past, Refusal, Season, Setpoints, Setup, TenthF,
+    Totals,
 };
 use std::fmt;
 use std::fmt::{Display, Formatter};
@@ -37,6 +38,16 @@ const GROUPS: [u32; 2] = [2, 2];
 
 const WATER: [u32; 2] = [200, 200];
 
+const SETUP: Setup<'static> = Setup {
+    grid: GRID,
+    climate: CLIMATE,
+    covers: &COVERS,
+    direction: &DIRECTIONS,
+    cover: &CODES,
+    group: &GROUPS,
+    available: &WATER,
+};
+
 // A day's answer, as the program prints it.
 #[derive(Clone, Copy)]
 struct Line {
@@ -55,15 +66,17 @@ struct State {
 impl Display for Line {
     fn fmt<W: fmt::Write>(&self, f: &mut Formatter<W>) -> fmt::Result {
         match self.answer {
-            Ok(Totals {
-                gross,
-                intercepted,
-                evapotranspired,
-                recharged,
-                rejected,
-                gone,
-                stored,
-            }) => write!(
+            Ok(
+                Totals {
+                    gross,
+                    intercepted,
+                    evapotranspired,
+                    recharged,
+                    rejected,
+                    gone,
+                    stored,
+                },
+            ) => write!(
                 f,
                 "{} {} {} {} {} {} {} {}",
                 self.serial,
@@ -84,17 +97,7 @@ impl State {
     fn fresh() -> Result<State, Refusal> {
         let mut soil = [0, 0];
         let mut snow = [0, 0];
-        let past = recharge::fresh(
-            GRID,
-            CLIMATE,
-            &COVERS,
-            &DIRECTIONS,
-            &CODES,
-            &GROUPS,
-            &WATER,
-            &mut soil,
-            &mut snow,
-        )?;
+        let past = recharge::fresh(&SETUP, &mut soil, &mut snow)?;
         Ok(State { soil, snow, past })
     }
 
@@ -110,13 +113,7 @@ impl State {
             potential: Depth(2000),
         };
         let answer = recharge::day(
-            GRID,
-            CLIMATE,
-            &COVERS,
-            &DIRECTIONS,
-            &CODES,
-            &GROUPS,
-            &WATER,
+            &SETUP,
             &mut self.soil,
             &mut self.snow,
             &mut [0, 0],

@@ -1,12 +1,12 @@
 // One day: why the cell got its figures, by the state before it, and the figures that the day left.
 ghost use Rattle.std.specs.Prelude.{◌≡◌};
-ghost use Rattle.records.specs.Grids.{setup_as};
+ghost use Rattle.records.specs.Grids.{setup_of};
 ghost use Rattle.records.specs.Past.{state_as};
 ghost use Rattle.records.specs.Days.{day_as};
 ghost use Rattle.explained.specs.Telling.{figures_as, figures_by, DayTold};
 
 use crate::day_lines::{Figures, figures_line, tell_reason};
-use records::{Climate, DayRecord, Grid, MOST_CELLS, Past, wide};
+use records::{DayRecord, MOST_CELLS, Past, Setup, wide};
 use std::ops::ControlFlow;
 use text::number_at;
 
@@ -39,13 +39,7 @@ fn figures_at(
 // Writes the day's two lines from the buffer's front on, as many bytes as fit, and takes the stores and the past to its end; of a day that is refused, its refusal, and nothing
 // else changes.
 pub fn explain_day(
-    grid: Grid,
-    climate: Climate,
-    covers: &[u32],
-    direction: &[u32],
-    cover: &[u32],
-    group: &[u32],
-    water: &[u32],
+    setup: &Setup<'_>,
     soil: &mut [u32],
     snow: &mut [u32],
     past: &mut Past,
@@ -54,15 +48,13 @@ pub fn explain_day(
     buffer: &mut [u8],
 ) -> ControlFlow<usize, usize>
     ensures { DayTold
-        (setup_as grid climate covers.now direction.now cover.now group.now water.now)
+        (setup_of setup.now)
         (state_as soil.old snow.old past.old) (day_as day) cell
         (state_as soil.new snow.new past.new) buffer.old buffer.new result }
 {
-    let why = reasons::why(
-        grid, climate, covers, direction, cover, group, water, soil, snow, *past, day, cell,
-    );
+    let why = reasons::why(setup, soil, snow, *past, day, cell);
     let next = tell_reason(buffer, day.serial, why)?;
-    let n = direction.len();
+    let n = setup.direction.len();
     let mut intercepted = [0u32; MOST_CELLS];
     let mut outflow = [0u32; MOST_CELLS];
     let mut evapotranspired = [0u32; MOST_CELLS];
@@ -70,13 +62,7 @@ pub fn explain_day(
     let mut rejected = [0u32; MOST_CELLS];
     // The day passes its tests, since there is a reason: its totals are not printed.
     let _ = recharge::day(
-        grid,
-        climate,
-        covers,
-        direction,
-        cover,
-        group,
-        water,
+        setup,
         soil,
         snow,
         &mut intercepted[..n],

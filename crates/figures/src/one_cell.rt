@@ -1,6 +1,6 @@
 // Days of one cell that drains over the edge.
 use records::{
-    Climate, DayRecord, Depth, FrostIndex, Grid, Memory, Past, Refusal, Season, Setpoints,
+    Climate, DayRecord, Depth, FrostIndex, Grid, Memory, Past, Refusal, Season, Setpoints, Setup,
     TenthF,
 };
 
@@ -15,7 +15,7 @@ pub(crate) const CLIMATE: Climate = Climate {
     },
 };
 
-pub(crate) const ONE_CELL: Grid = Grid {
+const ONE_CELL: Grid = Grid {
     width: 1,
     height: 1,
 };
@@ -85,6 +85,19 @@ pub(crate) fn weather(gross: u64, temperatures: Temperatures, potential: u64) ->
     }
 }
 
+// The cell with a table of its cover and its available water.
+pub(crate) fn one_cell<'a>(covers: &'a [u32], water: &'a [u32]) -> Setup<'a> {
+    Setup {
+        grid: ONE_CELL,
+        climate: CLIMATE,
+        covers,
+        direction: &[1],
+        cover: &[3],
+        group: &[2],
+        available: water,
+    }
+}
+
 impl Cell {
     pub(crate) const DRY: Cell = Cell {
         outflow: 0,
@@ -104,13 +117,7 @@ impl Cell {
         let mut outflow = [0];
         let mut past = past;
         recharge::day(
-            ONE_CELL,
-            CLIMATE,
-            &covers,
-            &[1],
-            &[3],
-            &[2],
-            &[water],
+            &one_cell(&covers, &[water]),
             &mut soil,
             &mut snow,
             &mut [0],

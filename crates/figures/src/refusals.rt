@@ -2,7 +2,7 @@
 ghost use Rattle.std.specs.Prelude.{◌≤◌};
 
 use crate::one_cell::{CLIMATE, MILD, remembered, weather};
-use records::Grid;
+use records::{Grid, Setup};
 
 const TWO_CELLS: Grid = Grid {
     width: 2,
@@ -49,17 +49,20 @@ fn tried(rt: &impl Print, trial: Trial)
 {
     let covers = [3, 0, 75, 75, 75, 75, 0, 0, 0, 0, 0, 0, 250, 250, 250, 250];
     let direction = [1, 0, 0];
+    let setup = Setup {
+        grid: TWO_CELLS,
+        climate: CLIMATE,
+        covers: &covers,
+        direction: &direction[..trial.directions],
+        cover: &[3, 3],
+        group: &[2, 2],
+        available: &[200, 200],
+    };
     let mut soil = [trial.soil[0], trial.soil[1], 0];
     let mut rejected = [0, 0, 0];
     let mut past = remembered(trial.yesterday, trial.frost);
     let answer = recharge::day(
-        TWO_CELLS,
-        CLIMATE,
-        &covers,
-        &direction[..trial.directions],
-        &[3, 3],
-        &[2, 2],
-        &[200, 200],
+        &setup,
         &mut soil[..trial.soils],
         &mut [0, trial.second_snow],
         &mut [0, 0],

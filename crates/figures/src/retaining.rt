@@ -1,7 +1,7 @@
 // The soil of rule 8 in dry spells, which document 000 fits, and the full soil of a fresh state.
 ghost use Rattle.std.specs.Prelude.{◌≤◌};
 
-use crate::one_cell::{CLIMATE, Cell, Ground, MILD, ONE_CELL, remembered, weather};
+use crate::one_cell::{Cell, Ground, MILD, one_cell, remembered, weather};
 use records::{Refusal, wide};
 
 // The soil after so many dry days, each with a potential of a tenth of the capacity; the capacity is given in tenths of an inch.
@@ -38,16 +38,6 @@ pub(crate) fn capacity(rt: &impl Print, water: u32, root: u32) {
         3, 0, 75, 75, 75, 75, 0, 0, 0, 0, 0, 0, root, root, root, root,
     ];
     let mut soil = [0];
-    let _ = recharge::fresh(
-        ONE_CELL,
-        CLIMATE,
-        &covers,
-        &[1],
-        &[3],
-        &[2],
-        &[water],
-        &mut soil,
-        &mut [0],
-    );
+    let _ = recharge::fresh(&one_cell(&covers, &[water]), &mut soil, &mut [0]);
     let _ = println!(rt; "capacity {water} {root} {}", soil[0]);
 }

@@ -118,3 +118,13 @@ module _ (text : List ℕ) (before after : List ℤ) where
   pub reads_no : (bad : BadGrid) → read_verdict text (length before) ≡ refused bad.0 → after ≡ before → Reads text before after (Err bad)
   unfolding on_accepted answer_in
   reads_no bad e same = record { answer = rw e refl; cells = rw e same }
+
+-- what an answer says of the paper's verdict
+answer_says : {T : Type 0} (v : Verdict) (x : T) → verdict_as (answer_in v x) ≡ v
+unfolding answer_in
+answer_says accepted x = refl
+answer_says (refused place) x = refl
+
+pub reads_verdict : {text : List ℕ} {before after : List ℤ} {r : Result code.Header BadGrid} → Reads text before after r → verdict_as r ≡ read_verdict text (length before)
+reads_verdict {text = text} {before = before} read =
+    ap verdict_as read.answer ∙ answer_says (read_verdict text (length before)) (header_in (header_read text))

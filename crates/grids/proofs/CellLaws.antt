@@ -1,26 +1,19 @@
 -- Which cells are refused: on the machine's signed numbers, and one after another.
-use mathlib.Core.Bool.{Bool, true, false, not, ◌&&◌}
+use mathlib.Core.Bool.{Bool, true, false, not}
 use mathlib.Core.List.{List, [], ◌∷◌}
 use mathlib.Core.Path.{◌≡◌, refl}
 use Prim.Native.Nat.{ℕ, ◌*◌}
 use native.Mathlib.Omega.{arith}
 use lib.Dec.{eqb}
 use lib.IntN.{ℤ, pos, negsuc, nat_abs}
-use lib.Signed.{le_z, lt_z}
+use lib.Signed.{lt_z}
 use mir.Syntax.{w32}
 use mir.Val.{SFits}
 use borrow.Author.Tests.{ltb-true}
 use Rattle.std.specs.List.{prefix_len}
 use Rattle.theory.proofs.Cases.{by_cases}
-use Rattle.grids.specs.Headers.{whole_fits}
-use Rattle.grids.specs.Cells.{is_same, cell_fits, depth_fits, passing}
+use Rattle.grids.specs.Cells.{depth_fits, passing}
 use Rattle.grids.proofs.WholeLaws.{read, whole}
-
-pub cell_fits_lem :
-    (no_data z : ℤ) (b : Bool) → SFits w32 no_data → SFits w32 z → b ≡ whole_fits (read z)
-    → (b && not (le_z (read z) (read no_data) && le_z (read no_data) (read z))) ≡ cell_fits no_data z
-unfolding cell_fits is_same
-cell_fits_lem no_data z b h k e = rw (e, whole no_data h, whole z k) refl
 
 negative_depth : (z : ℤ) (units : ℕ) → lt_z z (pos 0) ≡ true → true ≡ depth_fits z units
 unfolding depth_fits

@@ -3,7 +3,6 @@ pub mod MeasureLaws
 pub mod NameLaws
 pub mod SpanLaws
 pub mod CellLaws
-pub mod JudgingLaws
 pub mod ScanLaws
 pub mod FormLaws
 pub mod MeasureForm

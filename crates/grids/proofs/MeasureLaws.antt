@@ -10,7 +10,7 @@ use native.Mathlib.Omega.{arith}
 use lib.Dec.{eqb, leb}
 use lib.ListN.{length, get_or, take, drop, replicate, length-drop, drop_of_length-le}
 use lib.Seq.{sets, drop-cons, length-sets, sets-eq, take_all, take_at}
-use borrow.Author.Tests.{lt-ltb, le-ltb, le-leb, lt-leb, eq-eqb, ne_eqb, leb-true}
+use borrow.Author.Tests.{lt-ltb, le-ltb, ne_eqb, leb-true}
 use Rattle.theory.specs.Lists.{made}
 use Rattle.theory.proofs.Cases.{by_cases, below_or_not, and_left}
 use Rattle.theory.proofs.ListLaws.{made_length, made_cong, take_made}
@@ -54,40 +54,11 @@ module _ (l : List ℕ) (i : ℕ) where
 pub rest_all : (l : List ℕ) (k : ℕ) → take (length l - k) (drop k l) ≡ drop k l
 rest_all l k = take_all (length l - k) (drop k l) (omega (arith, length-drop k l))
 
--- the tests of a word: none, or a first byte and the rest
-nothing : (l : List ℕ) → length l ≡ 0 → l ≡ []
-nothing [] e = refl
-nothing (b ∷ bs) e = absurd (omega arith)
-
+-- digits, at least one; and how long a measure is
 pub some_digits : (l : List ℕ) → (not (eqb (length l) 0) && all_digits l) ≡ is_digits l
 unfolding is_digits all_digits
 some_digits [] = refl
 some_digits (b ∷ bs) = rw (ne_eqb (suc (length bs)) 0 (λ e. omega arith)) refl
-
-pub unsigned_none : (l : List ℕ) → length l ≡ 0 → is_unsigned l ≡ false
-unfolding is_unsigned
-unsigned_none l e = rw (nothing l e) refl
-
-pub unsigned_some : (l : List ℕ) (b : ℕ) (bs : List ℕ) → l ≡ b ∷ bs → is_unsigned l ≡ (is_digit b && goes_on bs)
-unfolding is_unsigned
-unsigned_some l b bs e = rw e refl
-
-pub measure_none : (l : List ℕ) → length l ≡ 0 → is_measure l ≡ false
-unfolding is_measure is_unsigned without_minus
-measure_none l e = rw (nothing l e) refl
-
-pub measure_long : (l : List ℕ) → most_characters < length l → is_measure l ≡ false
-unfolding is_measure
-measure_long l h = rw (lt-leb (length l) most_characters h) refl
-
-module _ (l : List ℕ) (b : ℕ) (bs : List ℕ) (is : l ≡ b ∷ bs) (h : length l ≤ most_characters) where
-  pub measure_minus : b ≡ 45 → is_measure l ≡ is_unsigned bs
-  unfolding is_measure without_minus
-  measure_minus e = rw (le-leb (length l) most_characters h, is, eq-eqb b 45 e) refl
-
-  pub measure_plain : (b ≡ 45 → ⊥) → is_measure l ≡ is_unsigned l
-  unfolding is_measure without_minus
-  measure_plain e = rw (le-leb (length l) most_characters h, is, ne_eqb b 45 e) refl
 
 pub measure_short : (l : List ℕ) → is_measure l ≡ true → length l ≤ most_characters
 unfolding is_measure

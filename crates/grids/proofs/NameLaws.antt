@@ -1,32 +1,20 @@
--- Names in either letter case, byte by byte, and a word's size by its meaning.
-use mathlib.Core.Bool.{Bool, true, false, ◌&&◌, true≢false}
+-- Names in either letter case, byte by byte, and a word's size by its number.
+use mathlib.Core.Bool.{Bool, true, false, true≢false}
 use mathlib.Core.List.{List, [], ◌∷◌}
 use mathlib.Core.Path.{◌≡◌, refl, sym, ap, ◌∙◌}
 use Prim.Native.Nat.{ℕ, zero, suc, ◌+◌, ◌≤◌, ◌<◌}
 use native.Mathlib.Numerals.{add-one}
 use native.Mathlib.Omega.{arith}
-use lib.Dec.{eqb, leb}
+use lib.Dec.{eqb}
 use lib.IntN.{ℤ, pos, negsuc, nat_abs}
 use lib.Signed.{le_z}
 use lib.ListN.{length, get_or, drop, drop_of_length-le}
 use lib.Seq.{drop-cons}
-use borrow.Author.Tests.{eq-eqb, ne_eqb, le-leb, leb-true}
-use Rattle.theory.proofs.Cases.{by_cases, and_right}
+use borrow.Author.Tests.{eq-eqb, ne_eqb, le-leb}
+use Rattle.theory.proofs.Cases.{by_cases}
 use Rattle.std.specs.Prelude.{Some, None}
 use Rattle.words.specs.Numbers.{Word, good, bad, number_in}
-use Rattle.grids.specs.Headers.{no_header, size_of, lower, lowered, same, named, values_in, header_of}
-
--- a capital's small letter, and any other byte itself
-pub capital_high : (b : ℕ) → (leb 65 b && leb b 90) ≡ true → b ≤ 90
-capital_high b e = leb-true b 90 (and_right (leb 65 b) (leb b 90) e)
-
-pub lower_capital : (b : ℕ) → (leb 65 b && leb b 90) ≡ true → b + 32 ≡ lower b
-unfolding lower
-lower_capital b e = rw e refl
-
-pub lower_other : (b : ℕ) → (leb 65 b && leb b 90) ≡ false → b ≡ lower b
-unfolding lower
-lower_other b e = rw e refl
+use Rattle.grids.specs.Headers.{size_of, lower, lowered, same}
 
 -- bytes in lower case, one by one
 pub lowered_length : (xs : List ℕ) → length (lowered xs) ≡ length xs
@@ -87,12 +75,3 @@ pub size_bad : (m : Word) → None ≡ number_in m → 0 ≡ size_of m
 unfolding number_in size_of
 size_bad (good z) e = absurd (let o : ◌≡◌ {A = ℕ} 0 1 = cc in omega arith)
 size_bad bad e = refl
-
--- a header by its names
-pub header_named : (ws : List (List ℕ)) → named ws ≡ true → header_of ws ≡ values_in ws
-unfolding header_of
-header_named ws e = rw e refl
-
-pub header_unnamed : (ws : List (List ℕ)) → named ws ≡ false → header_of ws ≡ no_header
-unfolding header_of
-header_unnamed ws e = rw e refl

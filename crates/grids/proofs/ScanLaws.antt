@@ -114,16 +114,6 @@ pub record Filled (text : List ℕ) (from : ℕ) (before now : List ℤ) (i star
   pub sized : length now ≡ length before
 
 module _ (text : List ℕ) (from : ℕ) (before : List ℤ) where
-  pub filled_first : (start end : ℕ) → length (wholes (words (drop from text))) ≤ length before → NextWord text from start end → Filled text from before before 0 start end
-  filled_first start end room next =
-      record {
-        left = words (drop from text);
-        onward = ahead text from start end next;
-        stored = refl;
-        room = omega arith;
-        sized = refl;
-      }
-
   module _ (now : List ℤ) (i start end : ℕ) (s : Filled text from before now i start end) where
     module _ (more : start < end) where
       met : wholes s.left ≡ whole_of (number (part text start end)) ∷ wholes (words (drop end text))

@@ -48,6 +48,3 @@ word_first text start end next = word_next text 0 0 start end refl (omega arith)
 
 pub word_then : (text : List ℕ) (k start end start' end' : ℕ) → WordAt text k start end → NextWord text end start' end' → WordAt text (k + 1) start' end'
 word_then text k start end start' end' w next = rw (add-one k) (word_next text (suc k) end start' end' w.after w.inside next)
-
-pub word_last : (text : List ℕ) (k i start end : ℕ) → i ≤ k → k ≤ i → WordAt text i start end → WordAt text k start end
-word_last text k i start end low high w = let same : i ≡ k = omega arith in rw (← same) w

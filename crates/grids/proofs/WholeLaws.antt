@@ -1,16 +1,14 @@
--- Whole numbers on the machine's signed numbers of 32 bits: each reads back as itself, what a word means fits them, and how far a number is from zero is
--- worked out in 64 bits.
-use mathlib.Core.Bool.{true, false, ◌&&◌}
+-- Whole numbers on the machine's signed numbers of 32 bits: each reads back as itself, what a word means fits them, and each is written
+-- by how far it is from zero.
+use mathlib.Core.Bool.{true, false}
 use mathlib.Core.List.{List, ◌∷◌}
 use mathlib.Core.Path.{◌≡◌, refl, sym, ap, ◌∙◌}
-use Prim.Native.Nat.{ℕ, suc, ◌≤◌}
-use native.Mathlib.Nat.{zero-add}
+use Prim.Native.Nat.{ℕ, ◌≤◌}
 use native.Mathlib.Omega.{arith}
-use lib.Dec.{T}
-use lib.IntN.{ℤ, pos, negsuc, nat_abs, ◌-ℤ◌}
-use lib.Signed.{le_z, lt_z, non_neg, nat_abs-le}
-use mir.Syntax.{w32, w64}
-use mir.Val.{Fits, SFits, to_z, of_z}
+use lib.IntN.{ℤ, pos, negsuc, nat_abs}
+use lib.Signed.{lt_z, nat_abs-le}
+use mir.Syntax.{w32}
+use mir.Val.{SFits, to_z, of_z}
 use mir.Facts.{to_z-of_z}
 use borrow.Author.Tests.{ltb-true}
 use Rattle.std.specs.Prelude.{Option, Some, unwrap_or}
@@ -20,19 +18,11 @@ use Rattle.words.specs.Writing.{Put, Wrote}
 use Rattle.words.proofs.NumberLaws.{NineDigits, Small, number_small}
 use Rattle.words.proofs.DigitLaws.{digits_below}
 use Rattle.words.proofs.WritingLaws.{wrote_as, wrote_bytes}
-use Rattle.grids.specs.Headers.{whole_fits, no_number, whole_of}
+use Rattle.grids.specs.Headers.{no_number, whole_of}
 use Rattle.grids.specs.Forms.{most_far, most_signed}
 
 abbrev pub read : ℤ → ℤ
 read z = to_z w32 (of_z w32 z)
-
-below_zero : (z : ℤ) → lt_z z (pos 0) ≡ true → pos 0 -ℤ z ≡ pos (nat_abs z)
-below_zero (pos n) e = absurd (omega (arith, ltb-true n 0 e))
-below_zero (negsuc m) e = ap pos (zero-add (suc m))
-
-not_below : (z : ℤ) → lt_z z (pos 0) ≡ false → z ≡ pos (nat_abs z)
-not_below (pos n) e = refl
-not_below (negsuc m) e = absurd (let o : ◌≡◌ {A = ℕ} 0 1 = cc in omega arith)
 
 below_written : (z : ℤ) → lt_z z (pos 0) ≡ true → written z ≡ 45 ∷ digits (nat_abs z)
 unfolding written
@@ -51,33 +41,7 @@ module _ (z : ℤ) (h : SFits w32 z) where
   near : nat_abs z ≤ most_far
   near = nat_abs-le z h.sfits
 
-  pub fits_read : (le_z (negsuc 999999998) (read z) && le_z (read z) (pos 999999999)) ≡ whole_fits z
-  unfolding whole_fits
-  fits_read = rw whole refl
-
-  pub wide_fits : SFits w64 (read z)
-  wide_fits = rw whole (record { sfits = omega (arith, h.sfits) })
-
-  -- zero less a number below it
-  abbrev turned : ℤ
-  turned = pos 0 -ℤ to_z w64 (of_z w64 (read z))
-
   module _ (p : lt_z (read z) (pos 0) ≡ true) where
-    turned_is : turned ≡ pos (nat_abs z)
-    turned_is = ap (λ (x : ℤ). pos 0 -ℤ x) (to_z-of_z wide_fits ∙ whole) ∙ below_zero z (rw whole at p)
-
-    pub turned_fits : SFits w64 turned
-    turned_fits = rw turned_is (record { sfits = omega (arith, near) })
-
-    turned_read : to_z w64 (of_z w64 turned) ≡ pos (nat_abs z)
-    turned_read = to_z-of_z turned_fits ∙ turned_is
-
-    pub turned_cast : T (non_neg (to_z w64 (of_z w64 turned))) × Fits w64 (nat_abs (to_z w64 (of_z w64 turned)))
-    turned_cast = rw turned_read (tt, record { fits = omega (arith, near) })
-
-    pub turned_far : (nat_abs (to_z w64 (of_z w64 turned)) ≡ nat_abs z) × (nat_abs (to_z w64 (of_z w64 turned)) ≤ most_far)
-    turned_far = rw turned_read (refl, near)
-
     -- a minus and at most ten digits are written
     pub below_wrote : {at far r : ℕ} {l l' : List ℕ} → far ≡ nat_abs (read z) → Put at (45 ∷ digits far) l l' r → Wrote most_signed at (written z) l l' r
     below_wrote {far = far} e w =
@@ -85,15 +49,6 @@ module _ (z : ℤ) (h : SFits w32 z) where
         (rw (below_written z (rw whole at p)) (omega (arith, digits_below 9 (nat_abs z) (omega (arith, near)))))
 
   module _ (p : lt_z (read z) (pos 0) ≡ false) where
-    plain : z ≡ pos (nat_abs z)
-    plain = not_below z (rw whole at p)
-
-    pub plain_cast : T (non_neg (read z)) × Fits w64 (nat_abs (read z))
-    plain_cast = rw (whole, plain) (tt, record { fits = omega (arith, near) })
-
-    pub plain_far : (nat_abs (read z) ≡ nat_abs z) × (nat_abs (read z) ≤ most_far)
-    plain_far = rw whole (refl, near)
-
     pub plain_wrote : {at far r : ℕ} {l l' : List ℕ} → far ≡ nat_abs (read z) → Put at (digits far) l l' r → Wrote most_signed at (written z) l l' r
     plain_wrote {far = far} e w =
         wrote_as most_signed (written z) (wrote_bytes w) (ap digits (e ∙ ap nat_abs whole) ∙ sym (plain_written z (rw whole at p)))

@@ -34,23 +34,20 @@ fn named(text: &[u8]) -> bool
 fn values(text: &[u8]) -> Header
     ensures { result ≡ header_in (values_in (words text.now)) }
 {
-    let width = size_at(text, 1);
-    let height = size_at(text, 3);
-    let x_corner = measure_at(text, 5);
-    let y_corner = measure_at(text, 7);
-    let cell_size = measure_at(text, 9);
-    let no_data = whole_at(text, 11);
     Header {
-        grid: Grid { width, height },
-        x_corner,
-        y_corner,
-        cell_size,
-        no_data,
+        grid: Grid {
+            width: size_at(text, 1),
+            height: size_at(text, 3),
+        },
+        x_corner: measure_at(text, 5),
+        y_corner: measure_at(text, 7),
+        cell_size: measure_at(text, 9),
+        no_data: whole_at(text, 11),
     }
 }
 
 impl Header {
-    // The empty header, which no grid has.
+    // The empty header, which no grid has; `header_of` and `read_verdict` speak of it, so it is no Option.
     pub fn none() -> Header
         ensures { result ≡ header_in no_header }
     {
@@ -81,11 +78,10 @@ impl Header {
     pub fn fits(self) -> bool
         ensures { result ≡ header_fits (header_as self) }
     {
-        let grid = self.grid;
-        let x_corner = self.x_corner;
-        let y_corner = self.y_corner;
-        let cell_size = self.cell_size;
-        let no_data = self.no_data;
-        grid.fits() & x_corner.fits() & y_corner.fits() & cell_size.fits() & whole_fits(no_data)
+        self.grid.fits()
+            & self.x_corner.fits()
+            & self.y_corner.fits()
+            & self.cell_size.fits()
+            & whole_fits(self.no_data)
     }
 }

@@ -43,8 +43,7 @@ pub(crate) fn judged(
     if passing < count {
         return Err(BadGrid(passing));
     }
-    let grid = header.grid;
-    if (count == grid.cells()) & enough {
+    if (count == header.grid.cells()) & enough {
         return Ok(());
     }
     Err(BadGrid(0))

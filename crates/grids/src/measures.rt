@@ -9,7 +9,7 @@ use words::{is_digit, put_bytes};
 // A text's most characters.
 pub const MOST_CHARACTERS: usize = 20;
 
-// The text is the first `count` bytes.
+// The text is the first `count` bytes, which lie in the value itself (no heap) and are lent by C so.
 #[derive(Clone, Copy)]
 pub struct Measure {
     pub bytes: [u8; MOST_CHARACTERS],
@@ -88,6 +88,7 @@ impl Measure {
         Measure { bytes, count }
     }
 
+    // No text, which `measured` gives for a word that is no measure, so it is no Option.
     #[tactic(auto, unfolding(crate::specs::Given::measure_in))]
     pub(crate) fn none() -> Measure
         ensures { result ≡ measure_in [] }

@@ -11,17 +11,11 @@ use crate::measures::Measure;
 use crate::wholes::whole;
 use words::{Span, next_word, number};
 
-// The small letters stand so far after the capitals.
-const TO_SMALL: u8 = 32;
-
 #[tactic(auto, unfolding(crate::specs::Headers::lower))]
 fn lower(b: u8) -> u8
     ensures { result ≡ lowerOf b }
 {
-    if (b'A' <= b) & (b <= b'Z') {
-        return b + TO_SMALL;
-    }
-    b
+    b.to_ascii_lowercase()
 }
 
 // Whether a word is a name, its letters in either case.
@@ -39,6 +33,7 @@ fn is_name(word: &[u8], name: &[u8]) -> bool
     true
 }
 
+// 0, and no Option, where a word is no number or one below zero, since `size_of` says so.
 fn size(word: &[u8]) -> u32
     ensures { result ≡ size_of (number_of word.now) }
 {
@@ -64,9 +59,7 @@ fn word_at(text: &[u8], k: usize) -> &[u8]
     ensures { result.now ≡ word_at (words text.now) k }
 {
     let word = span_at(text, k);
-    let start = word.start;
-    let end = word.end;
-    &text[start..end]
+    &text[word.start..word.end]
 }
 
 pub(crate) fn named_at(text: &[u8], k: usize, name: &[u8]) -> bool

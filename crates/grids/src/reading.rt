@@ -43,12 +43,10 @@ fn scan(text: &[u8], from: usize, no_data: i32) -> Cells
     let mut count = 0;
     let mut word = next_word(text, from);
     while word.start < word.end {
-        let start = word.start;
-        let end = word.end;
-        let fits = cell_fits(no_data, whole(&text[start..end]));
+        let fits = cell_fits(no_data, whole(&text[word.start..word.end]));
         passing = passed(passing, count, fits);
         count += 1;
-        word = next_word(text, end);
+        word = next_word(text, word.end);
     }
     Cells { passing, count }
 }
@@ -61,12 +59,9 @@ fn fill(text: &[u8], from: usize, cells: &mut [i32])
     let mut i = 0;
     let mut word = next_word(text, from);
     while word.start < word.end {
-        let start = word.start;
-        let end = word.end;
-        let cell = whole(&text[start..end]);
-        cells[i] = cell;
+        cells[i] = whole(&text[word.start..word.end]);
         i += 1;
-        word = next_word(text, end);
+        word = next_word(text, word.end);
     }
 }
 

@@ -12,7 +12,7 @@ const LEAST_WHOLE: i32 = -999999999;
 
 const MOST_WHOLE: i32 = 999999999;
 
-// Below them all: what a word that is no number is read as.
+// Below them all: what a word that is no number is read as, by `whole_of`, so that such a cell is refused as one out of bounds is.
 const NO_NUMBER: i32 = -1000000000;
 
 // At most nine digits.
@@ -34,10 +34,7 @@ pub(crate) fn whole(word: &[u8]) -> i32
 pub(crate) fn magnitude(z: i32) -> u64
     ensures { (result ≡ nat_abs z) × (result ≤ most_far) }
 {
-    if z < 0 {
-        return (0 - z as i64) as u64;
-    }
-    z as u64
+    u64::from(z.unsigned_abs())
 }
 
 pub(crate) fn put_whole(buffer: &mut [u8], at: usize, z: i32) -> usize

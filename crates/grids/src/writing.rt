@@ -45,25 +45,19 @@ fn put_no_data(buffer: &mut [u8], at: usize, name: &[u8], whole: i32) -> usize
 fn put_header(buffer: &mut [u8], header: Header) -> usize
     ensures { Wrote most_header 0 (header_form (header_as header)) buffer.old buffer.new result }
 {
-    let grid = header.grid;
-    let x_corner = header.x_corner;
-    let y_corner = header.y_corner;
-    let cell_size = header.cell_size;
-    let no_data = header.no_data;
-    let a = put_size(buffer, 0, b"ncols", grid.width);
-    let b = put_size(buffer, a, b"nrows", grid.height);
-    let c = put_measure(buffer, b, b"xllcorner", x_corner);
-    let d = put_measure(buffer, c, b"yllcorner", y_corner);
-    let e = put_measure(buffer, d, b"cellsize", cell_size);
-    put_no_data(buffer, e, b"nodata_value", no_data)
+    let a = put_size(buffer, 0, b"ncols", header.grid.width);
+    let b = put_size(buffer, a, b"nrows", header.grid.height);
+    let c = put_measure(buffer, b, b"xllcorner", header.x_corner);
+    let d = put_measure(buffer, c, b"yllcorner", header.y_corner);
+    let e = put_measure(buffer, d, b"cellsize", header.cell_size);
+    put_no_data(buffer, e, b"nodata_value", header.no_data)
 }
 
 fn put_form<C: Cell>(buffer: &mut [u8], header: Header, cells: &[C]) -> usize
     ensures { Wrote (most_header + C.most * length cells.now) 0 (grid_form C.form (header_as header) cells.now) buffer.old buffer.new result }
 {
-    let grid = header.grid;
     let from = put_header(buffer, header);
-    put_rows(buffer, from, index_of(grid.width), cells)
+    put_rows(buffer, from, index_of(header.grid.width), cells)
 }
 
 // Where the cells would end is seen first, by writing them into nothing: a buffer that is too short stays as it was.

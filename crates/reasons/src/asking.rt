@@ -2,7 +2,7 @@
 ghost use Rattle.std.specs.Prelude.{◌≡◌, ◌≤◌, length, take};
 ghost use Rattle.paper.specs.Setup.{cells_of};
 ghost use Rattle.paper.specs.Reasons.{why_of};
-ghost use Rattle.records.specs.Grids.{grid_as, setup_as};
+ghost use Rattle.records.specs.Grids.{grid_as, setup_of};
 ghost use Rattle.records.specs.Past.{state_as};
 ghost use Rattle.records.specs.Days.{day_as};
 ghost use Rattle.records.specs.Verdicts.{verdict_as};
@@ -13,7 +13,7 @@ ghost use Rattle.reasons.specs.Asked.{asked_of, Copied};
 use crate::grounds::ground_at;
 use crate::reading::{facts_of, first_true, left_at};
 use crate::whys::Why;
-use records::{Climate, DayRecord, Grid, MOST_CELLS, Past, Refusal, Totals, one_each};
+use records::{DayRecord, Grid, MOST_CELLS, Past, Refusal, Setup, Totals, one_each};
 
 // Test 4, of the cells' own numbers.
 const CELL_TEST: u32 = 4;
@@ -57,13 +57,7 @@ fn copied(store: &[u32]) -> [u32; MOST_CELLS]
 
 // Why the cell got its figures on the day, from the state before it: tests 1 to 10, then the first true reason of seven. Nothing that is lent changes.
 pub fn why(
-    grid: Grid,
-    climate: Climate,
-    covers: &[u32],
-    direction: &[u32],
-    cover: &[u32],
-    group: &[u32],
-    available: &[u32],
+    setup: &Setup<'_>,
     soil: &[u32],
     snow: &[u32],
     past: Past,
@@ -71,13 +65,13 @@ pub fn why(
     cell: usize,
 ) -> Result<Why, Refusal>
     ensures { why_as result ≡ why_of
-        (setup_as grid climate covers.now direction.now cover.now group.now available.now)
+        (setup_of setup.now)
         (state_as soil.now snow.now past) (day_as day) cell }
 {
-    if !grid.fits() {
+    if !setup.grid.fits() {
         return Err(Refusal::Grid);
     }
-    let n = grid.cells();
+    let n = setup.grid.cells();
     if !one_each(n, &[soil.len(), snow.len()]) {
         return Err(Refusal::Lent);
     }
@@ -90,13 +84,7 @@ pub fn why(
     let mut recharged = [0u32; MOST_CELLS];
     let mut rejected = [0u32; MOST_CELLS];
     let answer = recharge::day(
-        grid,
-        climate,
-        covers,
-        direction,
-        cover,
-        group,
-        available,
+        setup,
         &mut held[..n],
         &mut lying[..n],
         &mut intercepted[..n],
@@ -107,7 +95,7 @@ pub fn why(
         &mut after,
         day,
     );
-    asked(verdict_of(answer), grid, cell)?;
+    asked(verdict_of(answer), setup.grid, cell)?;
     let left = left_at(
         &outflow,
         &evapotranspired,
@@ -117,6 +105,12 @@ pub fn why(
         &lying,
         cell,
     );
-    let ground = ground_at(covers, cover, group, available, cell);
+    let ground = ground_at(
+        setup.covers,
+        setup.cover,
+        setup.group,
+        setup.available,
+        cell,
+    );
     Ok(first_true(facts_of(ground, day.gross, day.potential, soil[cell], left)))
 }

@@ -1,26 +1,20 @@
 // The office's daily call.
 ghost use Rattle.std.specs.Prelude.{◌≡◌};
 ghost use Rattle.paper.specs.Day.{day_of};
-ghost use Rattle.records.specs.Grids.{setup_as};
+ghost use Rattle.records.specs.Grids.{setup_of};
 ghost use Rattle.records.specs.Past.{state_as};
 ghost use Rattle.records.specs.Days.{day_as};
 ghost use Rattle.records.specs.Answers.{results_as, outcome_as};
 
 use crate::surveyed::surveyed_day;
 use admission::{Lengths, lent_verdict};
-use records::{Climate, DayRecord, Grid, MOST_CELLS, Past, Refusal, Totals};
+use records::{DayRecord, MOST_CELLS, Past, Refusal, Setup, Totals};
 use survey::survey;
 
 // One day: tests 1 to 10, then the five results and the two stores of every cell, the totals, and the next memory, serial and frost index. A day refused leaves
 // all that it was lent as it was.
 pub fn day(
-    grid: Grid,
-    climate: Climate,
-    covers: &[u32],
-    direction: &[u32],
-    cover: &[u32],
-    group: &[u32],
-    available: &[u32],
+    setup: &Setup<'_>,
     soil: &mut [u32],
     snow: &mut [u32],
     intercepted: &mut [u32],
@@ -33,7 +27,7 @@ pub fn day(
 ) -> Result<Totals, Refusal>
     ensures { outcome_as result soil.new snow.new past.new
         (results_as intercepted.new outflow.new evapotranspired.new recharged.new rejected.new)
-        ≡ day_of (setup_as grid climate covers.now direction.now cover.now group.now available.now)
+        ≡ day_of (setup_of setup.now)
         (state_as soil.old snow.old past.old)
         (results_as intercepted.old outflow.old evapotranspired.old recharged.old rejected.old) (day_as day) }
 {
@@ -44,19 +38,16 @@ pub fn day(
         recharged: recharged.len(),
         rejected: rejected.len(),
     };
-    lent_verdict(grid, soil.len(), snow.len(), lengths)?;
+    lent_verdict(setup.grid, soil.len(), snow.len(), lengths)?;
     let mut slots = [0u8; MOST_CELLS];
     let mut ways = [0u32; MOST_CELLS];
     let mut order = [0u32; MOST_CELLS];
-    survey(
-        grid, climate, covers, direction, cover, group, available, &mut slots, &mut ways,
-        &mut order,
-    )?;
+    survey(setup, &mut slots, &mut ways, &mut order)?;
     surveyed_day(
-        grid,
-        climate,
-        covers,
-        available,
+        setup.grid,
+        setup.climate,
+        setup.covers,
+        setup.available,
         &slots,
         &ways,
         &order,

@@ -3,13 +3,13 @@ ghost use Rattle.std.specs.Prelude.{Err, ◌≡◌, ◌+◌, ◌≤◌, length};
 ghost use Rattle.theory.specs.Lists.{made};
 ghost use Rattle.paper.specs.State.{no_past};
 ghost use Rattle.records.specs.Answers.{results_as};
-ghost use Rattle.records.specs.Grids.{setup_as};
+ghost use Rattle.records.specs.Grids.{setup_of};
 ghost use Rattle.records.specs.Past.{past_as, state_as};
 ghost use Rattle.recharge.specs.Period.{SumsRoom, Added, Addable, DayAdded, lists_fit, Begun, Went, Periods};
 
 use crate::surveyed::surveyed_day;
 use daybook::{DAY_NUMBERS, day_at, put_totals};
-use records::{Climate, Grid, MOST_CELLS, Past, Refusal, wide};
+use records::{MOST_CELLS, Past, Refusal, Setup, wide};
 use stores::fresh;
 use survey::survey;
 
@@ -78,13 +78,7 @@ fn add_day(
 // The days from a fresh state on, up to the first that is refused. The results of every cell are made once for all days, and a day finds in them what
 // the day before left.
 fn run(
-    grid: Grid,
-    climate: Climate,
-    covers: &[u32],
-    direction: &[u32],
-    cover: &[u32],
-    group: &[u32],
-    available: &[u32],
+    setup: &Setup<'_>,
     days: &[i32],
     soil: &mut [u32],
     snow: &mut [u32],
@@ -92,20 +86,17 @@ fn run(
     totals: &mut [u64],
     past: Past,
 ) -> Ended
-    requires { Begun (setup_as grid climate covers.now direction.now cover.now group.now available.now) days.now
+    requires { Begun (setup_of setup.now) days.now
         (state_as soil.old snow.old past) sums.old totals.old }
-    ensures { Went (setup_as grid climate covers.now direction.now cover.now group.now available.now)
+    ensures { Went (setup_of setup.now)
         days.now totals.old result soil.new snow.new sums.new totals.new }
 {
     let mut slots = [0u8; MOST_CELLS];
     let mut ways = [0u32; MOST_CELLS];
     let mut order = [0u32; MOST_CELLS];
     // the setup has passed these tests already
-    let _ = survey(
-        grid, climate, covers, direction, cover, group, available, &mut slots, &mut ways,
-        &mut order,
-    );
-    let n = available.len();
+    let _ = survey(setup, &mut slots, &mut ways, &mut order);
+    let n = setup.available.len();
     let mut intercepted = [0u32; MOST_CELLS];
     let mut outflow = [0u32; MOST_CELLS];
     let mut evapotranspired = [0u32; MOST_CELLS];
@@ -116,10 +107,10 @@ fn run(
     for k in 0..days.len() / DAY_NUMBERS {
         let day = day_at(days, k);
         let answer = surveyed_day(
-            grid,
-            climate,
-            covers,
-            available,
+            setup.grid,
+            setup.climate,
+            setup.covers,
+            setup.available,
             &slots,
             &ways,
             &order,
@@ -173,36 +164,25 @@ fn lists_fit(n: usize, days: usize, sums: usize, totals: usize) -> bool
 // All days of a list, from the fresh state: tests 1 to 6 once, then the days one after another, up to the first that is refused. Stores, sums and totals
 // are then those of the days before it. Where the setup is refused, nothing lent is changed.
 pub fn period(
-    grid: Grid,
-    climate: Climate,
-    covers: &[u32],
-    direction: &[u32],
-    cover: &[u32],
-    group: &[u32],
-    available: &[u32],
+    setup: &Setup<'_>,
     days: &[i32],
     soil: &mut [u32],
     snow: &mut [u32],
     sums: &mut [u64],
     totals: &mut [u64],
 ) -> Ended
-    ensures { Periods (setup_as grid climate covers.now direction.now cover.now group.now available.now)
+    ensures { Periods (setup_of setup.now)
         days.now soil.old snow.old sums.old totals.old result
         soil.new snow.new sums.new totals.new }
 {
-    if !grid.fits() {
+    if !setup.grid.fits() {
         return unbegun(Refusal::Grid);
     }
-    if !lists_fit(grid.cells(), days.len(), sums.len(), totals.len()) {
+    if !lists_fit(setup.grid.cells(), days.len(), sums.len(), totals.len()) {
         return unbegun(Refusal::Lent);
     }
-    match fresh(
-        grid, climate, covers, direction, cover, group, available, soil, snow,
-    ) {
+    match fresh(setup, soil, snow) {
         Err(why) => unbegun(why),
-        Ok(past) => run(
-            grid, climate, covers, direction, cover, group, available, days, soil, snow, sums,
-            totals, past,
-        ),
+        Ok(past) => run(setup, days, soil, snow, sums, totals, past),
     }
 }

@@ -5,6 +5,7 @@ use Rattle.records.specs.declared.grids.Grid.{Grid}
 use Rattle.records.specs.declared.grids.Season.{Season}
 use Rattle.records.specs.declared.grids.Setpoints.{Setpoints}
 use Rattle.records.specs.declared.grids.Climate.{Climate}
+use Rattle.records.specs.declared.setups.Setup.{Setup}
 
 abbrev pub grid_as : Grid → paper.Grid
 grid_as g = record { width = g.width; height = g.height }
@@ -30,3 +31,6 @@ setup_as g c covers direction cover group available =
       group = group;
       available = available;
     }
+
+abbrev pub setup_of : Setup → paper.Setup
+setup_of s = setup_as s.grid s.climate s.covers.now s.direction.now s.cover.now s.group.now s.available.now

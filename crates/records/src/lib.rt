@@ -8,6 +8,7 @@ mod grids;
 mod lent;
 mod past;
 mod quantities;
+mod setups;
 mod verdicts;
 
 pub use answers::Totals;
@@ -17,4 +18,5 @@ pub use grids::{Climate, Grid, MOST_CELLS, Season, Setpoints};
 pub use lent::{depth, index_of, one_each, wide};
 pub use past::{Memory, Past};
 pub use quantities::{CurveNumber, Depth, FrostIndex, TenthF};
+pub use setups::Setup;
 pub use verdicts::Refusal;

@@ -1,7 +1,7 @@
 // What is said of a refused setup or day: the file, the place in it, and the refusal.
 use crate::folder::{Folder, Source};
 use crate::places::line_of;
-use crate::setup::Setup;
+use crate::setup::Site;
 use crate::wrong::{At, Meaning, Refused, What, Wrong};
 use covers::ENTRY_NUMBERS;
 use lines::NEGATIVES;
@@ -27,11 +27,11 @@ fn has_code(covers: &[u32], code: u32) -> bool {
 }
 
 // Refusal 4: which of the cell's four numbers is at fault. A direction below zero has taken the group's place, so it comes first.
-fn faulty_number(setup: &Setup<'_>, cell: usize) -> (Source, &'static str) {
-    let group = number_at(setup.group, cell);
-    if NEGATIVES < number_at(setup.direction, cell) {
+fn faulty_number(site: &Site<'_>, cell: usize) -> (Source, &'static str) {
+    let group = number_at(site.setup.group, cell);
+    if NEGATIVES < number_at(site.setup.direction, cell) {
         (Source::Direction, "a direction below zero")
-    } else if !has_code(setup.covers, number_at(setup.cover, cell)) {
+    } else if !has_code(site.setup.covers, number_at(site.setup.cover, cell)) {
         (Source::Cover, "the cover table has no entry for this cover")
     } else if (group < 1) | (MOST_GROUP < group) {
         (Source::Group, "a soil group outside 1 to 4")
@@ -43,13 +43,13 @@ fn faulty_number(setup: &Setup<'_>, cell: usize) -> (Source, &'static str) {
 // What the library can say no to in a folder whose grids fit: the setup, or this day of the weather.
 pub(crate) fn refusal_of<'a>(
     folder: Folder<'a>,
-    setup: &Setup<'_>,
+    site: &Site<'_>,
     weather: &[u8],
     day: usize,
     why: Refusal,
 ) -> Wrong<'a> {
     let place = why.place();
-    let cell = At::Cell(setup.cell(place));
+    let cell = At::Cell(site.cell(place));
     let line = At::Line(line_of(weather, DAY_NUMBERS.saturating_mul(day)));
     let (file, at, meaning) = match why {
         Refusal::Grid | Refusal::Lent => (Source::Direction, At::File, Meaning::Untold),
@@ -59,7 +59,7 @@ pub(crate) fn refusal_of<'a>(
             Meaning::Words("the order of the codes, or a figure of this cover outside its limits"),
         ),
         Refusal::CellNumbers(_) => {
-            let (file, words) = faulty_number(setup, place);
+            let (file, words) = faulty_number(site, place);
             (file, cell, Meaning::Words(words))
         }
         Refusal::Ring(_) => (
@@ -86,7 +86,7 @@ pub(crate) fn refusal_of<'a>(
         Refusal::Snowfall(_) => (
             Source::Weather,
             line,
-            Meaning::TooMuchSnow(setup.cell(place)),
+            Meaning::TooMuchSnow(site.cell(place)),
         ),
     };
     Wrong::At(

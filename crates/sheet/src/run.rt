@@ -5,7 +5,7 @@ ghost use Rattle.text.specs.Run.{Complete};
 use crate::folder::Folder;
 use crate::ground::{Ground, read_ground};
 use crate::refusals::bad_cover_word;
-use crate::setup::{Outcome, Setup};
+use crate::setup::{Outcome, Site};
 use crate::texts::put_texts;
 use crate::weather_file::{Lent, day_numbers, run_weather};
 use crate::writing::write_files;
@@ -13,11 +13,11 @@ use crate::wrong::{What, Wrong};
 use grids::Header;
 use intake::filled;
 use lines::MOST_NUMBERS;
-use records::MOST_CELLS;
+use records::{MOST_CELLS, Setup};
 use std::rt::Files;
 use text::{
-    FRONT_NUMBERS, Layout, climate_in, covers_in, directions_in, grid_in, groups_in,
-    take_up, waters_in,
+    FRONT_NUMBERS, Layout, climate_in, covers_in, directions_in, grid_in, groups_in, take_up,
+    waters_in,
 };
 
 // Room for 20,000 days: seven numbers of each, and seven totals.
@@ -35,7 +35,7 @@ const SETUP_ROOM: usize = 65536;
 fn worked<'a>(
     rt: &(impl Files + Print),
     folder: Folder<'a>,
-    setup: &Setup<'_>,
+    site: &Site<'_>,
     soil: &mut [u32],
     snow: &mut [u32],
     room: &mut [u8],
@@ -50,7 +50,7 @@ fn worked<'a>(
         soil: &mut *soil,
         snow: &mut *snow,
     };
-    let count = run_weather(rt, folder, setup, lent, room)?;
+    let count = run_weather(rt, folder, site, lent, room)?;
     let numbers = day_numbers(count, DAY_ROOM);
     let outcome = Outcome {
         days: &days[..numbers],
@@ -58,9 +58,9 @@ fn worked<'a>(
         sums: &sums,
         soil,
         snow,
-        stored_at_start: setup.stored_at_start(),
+        stored_at_start: site.stored_at_start(),
     };
-    match put_texts(room, setup, &outcome) {
+    match put_texts(room, site, &outcome) {
         Some(texts) => write_files(rt, folder, texts),
         None => Err(Wrong::At(folder.sheet(), What::SheetTooLong)),
     }
@@ -91,21 +91,21 @@ fn started<'a>(
     let group = groups_in(numbers);
     let water = waters_in(numbers);
     let setup = Setup {
-        header,
         grid: grid_in(numbers),
         climate: climate_in(numbers),
         covers: &numbers[FRONT_NUMBERS..layout.cells_from],
         direction: &direction[..cells],
         cover: &cover[..cells],
         group: &group[..cells],
-        water: &water[..cells],
+        available: &water[..cells],
     };
+    let site = Site { header, setup };
     let mut soil = [0u32; MOST_CELLS];
     let mut snow = [0u32; MOST_CELLS];
     worked(
         rt,
         folder,
-        &setup,
+        &site,
         &mut soil[..cells],
         &mut snow[..cells],
         room,
@@ -123,9 +123,7 @@ fn taken_up<'a>(
     let mut numbers = [0u32; MOST_NUMBERS];
     match take_up(text, &mut numbers) {
         Err(bad) => Err(bad_cover_word(folder, text, bad.place as usize)),
-        Ok(layout) => {
-            started(rt, folder, header, &numbers[..layout.numbers], layout, room)
-        }
+        Ok(layout) => { started(rt, folder, header, &numbers[..layout.numbers], layout, room) }
     }
 }
 

@@ -2,19 +2,13 @@
 use crate::wrong::Cell;
 use grids::Header;
 use recharge::{Ended, period};
-use records::{Climate, Grid, MOST_CELLS, index_of};
+use records::{MOST_CELLS, Setup, index_of};
 
 #[derive(Clone, Copy)]
-pub(crate) struct Setup<'a> {
+pub(crate) struct Site<'a> {
     // What stands above each grid that is written.
     pub(crate) header: Header,
-    pub(crate) grid: Grid,
-    pub(crate) climate: Climate,
-    pub(crate) covers: &'a [u32],
-    pub(crate) direction: &'a [u32],
-    pub(crate) cover: &'a [u32],
-    pub(crate) group: &'a [u32],
-    pub(crate) water: &'a [u32],
+    pub(crate) setup: Setup<'a>,
 }
 
 // What a run has worked out: the days' numbers and totals, each cell's sums, and its stores at the end; and what all cells stored before the first day.
@@ -28,15 +22,15 @@ pub(crate) struct Outcome<'a> {
     pub(crate) stored_at_start: u64,
 }
 
-impl Setup<'_> {
+impl Site<'_> {
     pub(crate) fn cells(&self) -> usize {
-        self.direction.len()
+        self.setup.direction.len()
     }
 
     pub(crate) fn cell(&self, number: usize) -> Cell {
         Cell {
             number,
-            columns: index_of(self.grid.width),
+            columns: index_of(self.setup.grid.width),
         }
     }
 
@@ -45,17 +39,7 @@ impl Setup<'_> {
         let mut soil = [0u32; MOST_CELLS];
         let mut snow = [0u32; MOST_CELLS];
         let cells = self.cells().min(MOST_CELLS);
-        let _ = recharge::fresh(
-            self.grid,
-            self.climate,
-            self.covers,
-            self.direction,
-            self.cover,
-            self.group,
-            self.water,
-            &mut soil[..cells],
-            &mut snow[..cells],
-        );
+        let _ = recharge::fresh(&self.setup, &mut soil[..cells], &mut snow[..cells]);
         soil.iter()
             .fold(0, |sum: u64, &depth| sum.saturating_add(u64::from(depth)))
     }
@@ -69,19 +53,6 @@ impl Setup<'_> {
         sums: &mut [u64],
         totals: &mut [u64],
     ) -> Ended {
-        period(
-            self.grid,
-            self.climate,
-            self.covers,
-            self.direction,
-            self.cover,
-            self.group,
-            self.water,
-            days,
-            soil,
-            snow,
-            sums,
-            totals,
-        )
+        period(&self.setup, days, soil, snow, sums, totals)
     }
 }

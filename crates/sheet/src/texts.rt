@@ -1,5 +1,5 @@
 // The texts of the sheet's ten files, one behind another in a lent room. Where one does not fit, there are none.
-use crate::setup::{Outcome, Setup};
+use crate::setup::{Outcome, Site};
 use crate::writing::SheetFile;
 use grids::{Header, write_inches};
 use map::put_map;
@@ -95,18 +95,18 @@ fn put_days<'a>(room: &'a mut [u8], outcome: &Outcome<'_>) -> Option<Cut<'a>> {
 // The recharge of each cell, in words and as a picture.
 fn put_person<'a>(
     room: &'a mut [u8],
-    setup: &Setup<'_>,
+    site: &Site<'_>,
     outcome: &Outcome<'_>,
     recharged: &[u64],
 ) -> Option<Cut<'a>> {
     let count = put_sheet(
         room,
-        setup.grid,
-        setup.climate,
-        setup.covers,
-        setup.direction,
-        setup.cover,
-        setup.group,
+        site.setup.grid,
+        site.setup.climate,
+        site.setup.covers,
+        site.setup.direction,
+        site.setup.cover,
+        site.setup.group,
         outcome.stored_at_start,
         outcome.days,
         outcome.totals,
@@ -117,16 +117,16 @@ fn put_person<'a>(
 
 fn put_picture<'a>(
     room: &'a mut [u8],
-    setup: &Setup<'_>,
+    site: &Site<'_>,
     outcome: &Outcome<'_>,
     recharged: &[u64],
 ) -> Option<Cut<'a>> {
     let count = put_map(
         room,
-        setup.grid,
-        setup.covers,
-        setup.direction,
-        setup.cover,
+        site.setup.grid,
+        site.setup.covers,
+        site.setup.direction,
+        site.setup.cover,
         recharged,
         outcome.days,
     );
@@ -135,11 +135,11 @@ fn put_picture<'a>(
 
 pub(crate) fn put_texts<'a>(
     room: &'a mut [u8],
-    setup: &Setup<'_>,
+    site: &Site<'_>,
     outcome: &Outcome<'_>,
 ) -> Option<Texts<'a>> {
-    let header = setup.header;
-    let sums = Sums::by_kind(outcome.sums, setup.cells())?;
+    let header = site.header;
+    let sums = Sums::by_kind(outcome.sums, site.cells())?;
     let (recharge, room) = put_depths(room, header, sums.recharged)?;
     let (evapotranspiration, room) = put_depths(room, header, sums.evapotranspired)?;
     let (outflow, room) = put_depths(room, header, sums.outflow)?;
@@ -148,8 +148,8 @@ pub(crate) fn put_texts<'a>(
     let (soil, room) = put_store(room, header, outcome.soil)?;
     let (snow, room) = put_store(room, header, outcome.snow)?;
     let (days, room) = put_days(room, outcome)?;
-    let (person, room) = put_person(room, setup, outcome, sums.recharged)?;
-    let (map, _) = put_picture(room, setup, outcome, sums.recharged)?;
+    let (person, room) = put_person(room, site, outcome, sums.recharged)?;
+    let (map, _) = put_picture(room, site, outcome, sums.recharged)?;
     Some(Texts {
         recharge,
         evapotranspiration,

@@ -4,7 +4,7 @@ ghost use Rattle.std.specs.Prelude.{◌≤◌};
 use crate::folder::{Folder, Source};
 use crate::ground::read_front;
 use crate::refusals::{DAY_NUMBERS, bad_weather_word, cut_off, refusal_of};
-use crate::setup::Setup;
+use crate::setup::Site;
 use crate::wrong::{What, Wrong};
 use season::{WeatherError, read_days};
 use std::rt::Files;
@@ -30,7 +30,10 @@ fn days_in<'a>(folder: Folder<'a>, weather: &[u8], days: &mut [i32]) -> Result<u
         Ok(count) => Ok(count),
         Err(WeatherError::BadWord(place)) => Err(bad_weather_word(folder, weather, place)),
         Err(WeatherError::CutOff(count)) => Err(cut_off(folder, weather, count)),
-        Err(WeatherError::TooMany(_)) => Err(Wrong::At(folder.source(Source::Weather), What::TooManyDays)),
+        Err(WeatherError::TooMany(_)) => Err(Wrong::At(
+            folder.source(Source::Weather),
+            What::TooManyDays,
+        )),
     }
 }
 
@@ -52,7 +55,7 @@ pub(crate) fn day_numbers(days: usize, room: usize) -> usize
 pub(crate) fn run_weather<'a>(
     rt: &impl Files,
     folder: Folder<'a>,
-    setup: &Setup<'_>,
+    site: &Site<'_>,
     lent: Lent<'_>,
     room: &mut [u8],
 ) -> Result<usize, Wrong<'a>> {
@@ -68,8 +71,8 @@ pub(crate) fn run_weather<'a>(
     let count = days_in(folder, weather, days)?;
     let numbers = day_numbers(count, days.len());
     let held = day_numbers(count, totals.len());
-    let summed = numbers_of(setup.cells(), SUMS, sums.len());
-    let run = setup.run(
+    let summed = numbers_of(site.cells(), SUMS, sums.len());
+    let run = site.run(
         &days[..numbers],
         soil,
         snow,
@@ -78,6 +81,6 @@ pub(crate) fn run_weather<'a>(
     );
     match run.verdict {
         Ok(()) => Ok(count),
-        Err(why) => Err(refusal_of(folder, setup, weather, run.days, why)),
+        Err(why) => Err(refusal_of(folder, site, weather, run.days, why)),
     }
 }

@@ -8,7 +8,8 @@ use lib.ListN.{length, take, drop}
 use lib.Seq.{length-take-le}
 use Rattle.theory.proofs.ListLaws.{made_length, take_made}
 use Rattle.text.specs.Program.{cover_count, cell_count, cells_from, days_from, setup}
-use Rattle.text.specs.Laying.{held, Laid}
+use Rattle.records.specs.declared.setups.Setup.{Setup}
+use Rattle.text.specs.Laying.{grid_in, climate_in, held, Laid}
 use Rattle.text.specs.Taking.{layout_in}
 use Rattle.text.specs.Run.{Complete}
 use Rattle.text.specs.declared.taking.Layout.{Layout}
@@ -44,16 +45,21 @@ module _ (ns : List ℕ) (layout : Layout) (c : Complete ns layout) where
   taken r l e long = ap (take layout.cells) e ∙ held_front l layout.cells (cells_counted ∙ sym long) cells_fit
 
   pub laid :
-      (direction cover group water : List ℕ)
+      (s : Setup) (direction cover group water : List ℕ)
+      → s.grid ≡ grid_in ns → s.climate ≡ climate_in ns → s.covers.now ≡ take (layout.cells_from - 5) (drop 5 ns)
+      → s.direction.now ≡ take layout.cells direction → s.cover.now ≡ take layout.cells cover → s.group.now ≡ take layout.cells group
+      → s.available.now ≡ take layout.cells water
       → direction ≡ held (setup ns).direction → cover ≡ held (setup ns).cover → group ≡ held (setup ns).group → water ≡ held (setup ns).available
-      → Laid ns (take (layout.cells_from - 5) (drop 5 ns)) (take layout.cells direction) (take layout.cells cover) (take layout.cells group) (take layout.cells water)
+      → Laid ns s
   unfolding setup
-  laid direction cover group water d k g w =
+  laid s direction cover group water grid climate covers ed ek eg ew d k g w =
       let table : layout.cells_from - 5 ≡ 16 * cover_count ns = omega (arith, table_end) in
       record {
-        table = ap (λ (n : ℕ). take n (drop 5 ns)) table ∙ take_made (16 * cover_count ns) 5 ns (omega (arith, table_end, table_ends));
-        directions = taken direction _ d (made_length _ _);
-        codes = taken cover _ k (made_length _ _);
-        groups = taken group _ g (made_length _ _);
-        waters = taken water _ w (made_length _ _);
+        grid = grid;
+        climate = climate;
+        table = covers ∙ ap (λ (n : ℕ). take n (drop 5 ns)) table ∙ take_made (16 * cover_count ns) 5 ns (omega (arith, table_end, table_ends));
+        directions = ed ∙ taken direction _ d (made_length _ _);
+        codes = ek ∙ taken cover _ k (made_length _ _);
+        groups = eg ∙ taken group _ g (made_length _ _);
+        waters = ew ∙ taken water _ w (made_length _ _);
       }

@@ -5,6 +5,7 @@ use Rattle.paper.specs.State.{Day}
 use Rattle.lines.specs.Reading.{no_number, signed}
 use Rattle.records.specs.declared.grids.Grid.{Grid}
 use Rattle.records.specs.declared.grids.Climate.{Climate}
+use Rattle.records.specs.declared.setups.Setup.{Setup}
 use Rattle.text.specs.Program.{field, balance_setpoints, setup}
 
 -- the first four numbers, and the program's setpoints
@@ -39,9 +40,11 @@ day_from ns from k =
       potential = field ns (from + 7 * k + 6);
     }
 
-pub record Laid (ns covers direction cover group water : List ℕ) : Type 0 where
-  pub table : covers ≡ (setup ns).covers
-  pub directions : direction ≡ (setup ns).direction
-  pub codes : cover ≡ (setup ns).cover
-  pub groups : group ≡ (setup ns).group
-  pub waters : water ≡ (setup ns).available
+pub record Laid (ns : List ℕ) (s : Setup) : Type 0 where
+  pub grid : s.grid ≡ grid_in ns
+  pub climate : s.climate ≡ climate_in ns
+  pub table : s.covers.now ≡ (setup ns).covers
+  pub directions : s.direction.now ≡ (setup ns).direction
+  pub codes : s.cover.now ≡ (setup ns).cover
+  pub groups : s.group.now ≡ (setup ns).group
+  pub waters : s.available.now ≡ (setup ns).available

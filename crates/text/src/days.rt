@@ -2,7 +2,7 @@
 ghost use Rattle.std.specs.Prelude.{length};
 ghost use Rattle.theory.specs.Lists.{made};
 ghost use Rattle.paper.specs.Day.{no_results};
-ghost use Rattle.records.specs.Grids.{setup_as};
+ghost use Rattle.records.specs.Grids.{setup_of};
 ghost use Rattle.records.specs.Past.{state_as};
 ghost use Rattle.text.specs.Program.{day_count, day_at, days_text};
 ghost use Rattle.text.specs.Run.{DaysReady, most_text};
@@ -11,7 +11,7 @@ ghost use Rattle.words.specs.Writing.{Wrote};
 use crate::fields::day_in;
 use crate::taking::Layout;
 use lines::{ended, tell};
-use records::{Climate, Grid, MOST_CELLS, Past};
+use records::{MOST_CELLS, Past, Setup};
 use std::ops::ControlFlow;
 
 // The days from a state on, up to the first that is refused, and the last line. The results of every cell are not printed: their arrays are made
@@ -19,22 +19,16 @@ use std::ops::ControlFlow;
 pub(crate) fn days(
     numbers: &[u32],
     layout: Layout,
-    grid: Grid,
-    climate: Climate,
-    covers: &[u32],
-    direction: &[u32],
-    cover: &[u32],
-    group: &[u32],
-    water: &[u32],
+    setup: &Setup<'_>,
     soil: &mut [u32],
     snow: &mut [u32],
     past: Past,
     output: &mut [u8],
 ) -> usize
-    requires { DaysReady numbers.now layout direction.now }
-    ensures { Wrote most_text 0 (days_text (setup_as grid climate covers.now direction.now cover.now group.now water.now) (state_as soil.old snow.old past) (no_results (length direction.now)) 0 (made (day_count numbers.now) (day_at numbers.now))) output.old output.new result }
+    requires { DaysReady numbers.now layout setup.now.direction.now }
+    ensures { Wrote most_text 0 (days_text (setup_of setup.now) (state_as soil.old snow.old past) (no_results (length setup.now.direction.now)) 0 (made (day_count numbers.now) (day_at numbers.now))) output.old output.new result }
 {
-    let n = direction.len();
+    let n = setup.direction.len();
     let from = layout.days_from;
     let count = layout.days;
     let mut intercepted = [0u32; MOST_CELLS];
@@ -48,13 +42,7 @@ pub(crate) fn days(
     for k in 0..count {
         let day = day_in(numbers, from, k);
         let answer = recharge::day(
-            grid,
-            climate,
-            covers,
-            direction,
-            cover,
-            group,
-            water,
+            setup,
             soil,
             snow,
             &mut intercepted[..n],

@@ -10,35 +10,23 @@ use crate::fields::{
 };
 use crate::taking::Layout;
 use lines::refusal;
-use records::MOST_CELLS;
+use records::{MOST_CELLS, Setup};
 
 // The fresh state, and the days from it on; or its refusal.
 fn begun(
     numbers: &[u32],
     layout: Layout,
-    covers: &[u32],
-    direction: &[u32],
-    cover: &[u32],
-    group: &[u32],
-    water: &[u32],
+    setup: &Setup<'_>,
     soil: &mut [u32],
     snow: &mut [u32],
     output: &mut [u8],
 ) -> usize
-    requires { Laid numbers.now covers.now direction.now cover.now group.now water.now × Lent numbers.now layout soil.old snow.old }
+    requires { Laid numbers.now setup.now × Lent numbers.now layout soil.old snow.old }
     ensures { Wrote most_text 0 (run_text numbers.now) output.old output.new result }
 {
-    let grid = grid_in(numbers);
-    let climate = climate_in(numbers);
-    let fresh = recharge::fresh(
-        grid, climate, covers, direction, cover, group, water, soil, snow,
-    );
-    match fresh {
+    match recharge::fresh(setup, soil, snow) {
         Err(why) => refusal(output, 0, why),
-        Ok(past) => days(
-            numbers, layout, grid, climate, covers, direction, cover, group, water, soil, snow,
-            past, output,
-        ),
+        Ok(past) => days(numbers, layout, setup, soil, snow, past, output),
     }
 }
 
@@ -47,8 +35,6 @@ pub(crate) fn started(numbers: &[u32], layout: Layout, output: &mut [u8]) -> usi
     requires { Complete numbers.now layout × Coded numbers.now }
     ensures { Wrote most_text 0 (run_text numbers.now) output.old output.new result }
 {
-    let front = FRONT_NUMBERS;
-    let from = layout.cells_from;
     let cells = layout.cells;
     let direction = directions_in(numbers);
     let cover = covers_in(numbers);
@@ -56,14 +42,19 @@ pub(crate) fn started(numbers: &[u32], layout: Layout, output: &mut [u8]) -> usi
     let water = waters_in(numbers);
     let mut soil = [0u32; MOST_CELLS];
     let mut snow = [0u32; MOST_CELLS];
+    let setup = Setup {
+        grid: grid_in(numbers),
+        climate: climate_in(numbers),
+        covers: &numbers[FRONT_NUMBERS..layout.cells_from],
+        direction: &direction[..cells],
+        cover: &cover[..cells],
+        group: &group[..cells],
+        available: &water[..cells],
+    };
     begun(
         numbers,
         layout,
-        &numbers[front..from],
-        &direction[..cells],
-        &cover[..cells],
-        &group[..cells],
-        &water[..cells],
+        &setup,
         &mut soil[..cells],
         &mut snow[..cells],
         output,

@@ -9,24 +9,12 @@ use crate::wrong::Wrong;
 use explained::{MOST_LINES, explain_day};
 use intake::{Failure, say};
 use lines::MOST_NUMBERS;
-use records::{Climate, DayRecord, Grid, MOST_CELLS, Past, Refusal};
+use records::{DayRecord, MOST_CELLS, Past, Refusal, Setup};
 use std::ops::ControlFlow;
 use text::{
-    BadText, FRONT_NUMBERS, Layout, climate_in, covers_in, day_in, directions_in, grid_in, groups_in,
-    take_up, waters_in,
+    BadText, FRONT_NUMBERS, Layout, climate_in, covers_in, day_in, directions_in, grid_in,
+    groups_in, take_up, waters_in,
 };
-
-// What the days are run over.
-#[derive(Clone, Copy)]
-struct Setup<'a> {
-    grid: Grid,
-    climate: Climate,
-    covers: &'a [u32],
-    direction: &'a [u32],
-    cover: &'a [u32],
-    group: &'a [u32],
-    water: &'a [u32],
-}
 
 // The text's numbers, and where its days stand among them.
 #[derive(Clone, Copy)]
@@ -36,49 +24,19 @@ struct Days<'a> {
     count: usize,
 }
 
-impl Setup<'_> {
-    fn fresh(&self, soil: &mut [u32], snow: &mut [u32]) -> Result<Past, Refusal> {
-        recharge::fresh(
-            self.grid,
-            self.climate,
-            self.covers,
-            self.direction,
-            self.cover,
-            self.group,
-            self.water,
-            soil,
-            snow,
-        )
-    }
-
-    // What the day tells lies within its buffer. The stores stand apart here and below: in a struct, tried, their being lent together has no proof.
-    fn explain(
-        &self,
-        soil: &mut [u32],
-        snow: &mut [u32],
-        past: &mut Past,
-        day: DayRecord,
-        cell: usize,
-        lines: &mut [u8; MOST_LINES],
-    ) -> ControlFlow<usize, usize>
-        ensures { Inside result (length lines.new) }
-    {
-        explain_day(
-            self.grid,
-            self.climate,
-            self.covers,
-            self.direction,
-            self.cover,
-            self.group,
-            self.water,
-            soil,
-            snow,
-            past,
-            day,
-            cell,
-            lines,
-        )
-    }
+// What the day tells lies within its buffer. The stores stand apart here and below: in a struct, tried, their being lent together has no proof.
+fn explain(
+    setup: &Setup<'_>,
+    soil: &mut [u32],
+    snow: &mut [u32],
+    past: &mut Past,
+    day: DayRecord,
+    cell: usize,
+    lines: &mut [u8; MOST_LINES],
+) -> ControlFlow<usize, usize>
+    ensures { Inside result (length lines.new) }
+{
+    explain_day(setup, soil, snow, past, day, cell, lines)
 }
 
 // Prints the last line, and sees that the day asked about was there. A failed write is said before that.
@@ -108,7 +66,7 @@ fn tell_days(
     let mut shown = 0;
     for k in 0..days.count {
         let day = day_in(days.numbers, days.from, k);
-        match setup.explain(soil, snow, &mut past, day, question.cell, &mut lines) {
+        match explain(setup, soil, snow, &mut past, day, question.cell, &mut lines) {
             ControlFlow::Break(end) => return Ok(print(rt, &lines[..end])?),
             ControlFlow::Continue(end) => {
                 if question.is_about(day.serial) {
@@ -131,7 +89,7 @@ fn fresh(
     soil: &mut [u32],
     snow: &mut [u32],
 ) -> Result<Past, Refusal> {
-    let fresh = setup.fresh(soil, snow);
+    let fresh = recharge::fresh(setup, soil, snow);
     reasons::asked(fresh.map(|_| ()), setup.grid, cell)?;
     fresh
 }
@@ -180,7 +138,7 @@ fn started(
         direction: &direction[..cells],
         cover: &cover[..cells],
         group: &group[..cells],
-        water: &water[..cells],
+        available: &water[..cells],
     };
     let days = Days {
         numbers,

@@ -5,7 +5,7 @@ use Rattle.records.specs.Verdicts.{verdict_as}
 use Rattle.records.proofs.VerdictLaws.{verdict_back}
 use Rattle.clib.specs.Numbers.{returned, told}
 use Rattle.clib.proofs.PlaceLaws.{setup_near, near_fits}
-use Rattle.clib.proofs.HandedLaws.{same_setup, told_near}
+use Rattle.clib.proofs.HandedLaws.{told_near}
 use Rattle.clib.proofs.calls.recharge_check.Goals as goal
 
 pub returns : goal.returns
@@ -14,4 +14,4 @@ returns c =
     c.returned_as.ensures
     ∙ ap told (ap verdict_as c.check.ensures ∙ verdict_back _)
     ∙ told_near _ (near_fits (setup_near _ _))
-    ∙ ap returned (ap check_of (same_setup _ _ _ c.grid_of-grid.ensures c.climate_of-climate.ensures _ _ _ _ _))
+    ∙ ap returned (ap check_of c.setup_given-setup.ensures)

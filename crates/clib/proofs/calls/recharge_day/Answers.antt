@@ -5,7 +5,7 @@ use Rattle.paper.specs.Setup.{Setup}
 use Rattle.paper.specs.State.{State, Day}
 use Rattle.std.proofs.Common.{◌≡◌, refl, ◌∙◌}
 use Rattle.paper.specs.Day.{Results, Outcome, day_of}
-use Rattle.records.specs.Grids.{setup_as}
+use Rattle.records.specs.Grids.{setup_of}
 use Rattle.records.specs.Past.{past_as, state_as}
 use Rattle.records.specs.Days.{day_as}
 use Rattle.records.proofs.AnswerLaws.{told, told_is}
@@ -13,7 +13,7 @@ use Rattle.clib.specs.Given.{setup_from, day_from}
 use Rattle.clib.specs.Narrow.{Narrow}
 use Rattle.clib.specs.Numbers.{totals_list}
 use Rattle.clib.specs.Handed.{Stores, stores_from, results_from}
-use Rattle.clib.proofs.HandedLaws.{same_setup, told_near, none_returned, day_placed, day_narrow, day_handed}
+use Rattle.clib.proofs.HandedLaws.{told_near, none_returned, day_placed, day_narrow, day_handed}
 use Rattle.clib.proofs.calls.recharge_day.Goals.{After-day-answer}
 use Rattle.clib.proofs.calls.recharge_day.Goals as goal
 
@@ -32,8 +32,7 @@ module _ (c : goal.After-day-answer) where
 
   abbrev handed_setup : Setup
   handed_setup =
-      setup_as c.grid_of-grid.result c.climate_of-climate.result c.args.covers.now c.args.direction.now
-      c.args.cover.now c.args.group.now c.args.available.now
+      setup_of c.setup_given-setup.result
 
   abbrev handed_state : State
   handed_state = state_as c.args.soil.now c.args.snow.now c.past_from-past.result
@@ -64,7 +63,7 @@ returns-in-Ok c =
     let kept = c.keep.ensures in
     day_handed (the_setup day) (the_stores day) (the_results day) (day_from c.args.day)
     {t = handed_setup day} {p = past_as c.past_from-past.result} {z = handed_day day} {o = answered day} (by_rules day)
-    (same_setup _ _ _ c.grid_of-grid.ensures c.climate_of-climate.ensures _ _ _ _ _)
+    c.setup_given-setup.ensures
     c.record_of.ensures.0 c.past_from-past.ensures.0 (rw c.in-Ok.is none_returned)
     kept.memory_is kept.last_is kept.frost_is (rw c.in-Ok.is c.figures_of.ensures)
 
@@ -76,6 +75,6 @@ returns-in-Err c =
     let near = rw c.in-Err.is at (day_placed (handed_setup day) (handed_state day) (the_results day) (handed_day day) {o = answered day} (by_rules day)) in
     day_handed (the_setup day) (the_stores day) (the_results day) (day_from c.args.day)
     {t = handed_setup day} {p = past_as c.past_from-past.result} {z = handed_day day} {o = answered day} (by_rules day)
-    (same_setup _ _ _ c.grid_of-grid.ensures c.climate_of-climate.ensures _ _ _ _ _)
+    c.setup_given-setup.ensures
     c.record_of.ensures.0 c.past_from-past.ensures.0 (rw c.in-Err.is (c.refused_as.ensures ∙ told_near _ near))
     kept.memory_is kept.last_is kept.frost_is (rw c.in-Err.is refl)

@@ -5,7 +5,7 @@ use Rattle.paper.specs.Setup.{Setup}
 use Rattle.paper.specs.State.{State}
 use Rattle.paper.specs.Day.{Outcome}
 use Rattle.paper.specs.Reasons.{Explanation}
-use Rattle.records.specs.Grids.{setup_as}
+use Rattle.records.specs.Grids.{setup_of}
 use Rattle.records.specs.Past.{state_as}
 use Rattle.records.specs.Days.{day_as}
 use Rattle.records.specs.Answers.{results_as}
@@ -22,7 +22,7 @@ use Rattle.explained.proofs.explaining.explain_day.Goals as goal
 module _ (c : goal.After-tell_reason) where
   abbrev setup : Setup
   setup =
-      setup_as c.args.grid c.args.climate c.args.covers.now c.args.direction.now c.args.cover.now c.args.group.now c.args.water.now
+      setup_of c.args.setup.now
 
   abbrev state : State
   state = state_as c.args.soil.now c.args.snow.now c.args.past.now
@@ -31,7 +31,7 @@ module _ (c : goal.After-tell_reason) where
   answer = why_as c.why-why.result
 
   -- where a reason is given, the cells are few
-  cells_few : {next : ℕ} → c.tell_reason.result ≡ Continue next → length c.args.direction.now ≤ 4096
+  cells_few : {next : ℕ} → c.tell_reason.result ≡ Continue next → length c.args.setup.now.direction.now ≤ 4096
   cells_few is =
       few setup state (day_as c.args.day) c.args.cell
       (given_reason setup state (day_as c.args.day) c.args.cell answer c.why-why.ensures c.args.buffer.now c.tell_reason.new.buffer
@@ -83,7 +83,7 @@ slice_bounds-day-end-5 c = sized _ (cells_few (goal.at.slice_bounds-day-end-5 c)
 pub returns : goal.returns
 returns c =
     let w = (goal.at.returns c).After-tell_reason in
-    let rest = drop (length c.args.direction.now) (replicate {A = ℕ} 4096 0) in
+    let rest = drop (length c.args.setup.now.direction.now) (replicate {A = ℕ} 4096 0) in
     let new = c.day.new in
     let left : Outcome = told c.day.result new.soil new.snow new.past
     (results_as new.intercepted new.outflow new.evapotranspired new.recharged new.rejected) in

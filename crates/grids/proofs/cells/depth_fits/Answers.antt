@@ -1,5 +1,4 @@
 -- `cells::depth_fits` meets its contract: no depth is below zero.
-use Rattle.std.proofs.Common.{arith}
 use Rattle.grids.proofs.CellLaws.{depth_below, depth_plain}
 use Rattle.grids.proofs.cells.depth_fits.Goals as goal
 

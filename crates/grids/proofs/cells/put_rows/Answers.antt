@@ -1,7 +1,6 @@
 -- `cells::put_rows` meets its contract: what is written so far and what is left are all the rows.
 use Rattle.std.proofs.Common.{arith}
-use Rattle.words.proofs.WritingLaws.{wrote_length}
-use Rattle.grids.proofs.FormLaws.{laid_none, laid_next, laid_all}
+use Rattle.grids.proofs.FormLaws.{laid_next, laid_all}
 use Rattle.grids.proofs.cells.put_rows.Goals as goal
 
 pub loop-cell-preserved : goal.loop-cell-preserved

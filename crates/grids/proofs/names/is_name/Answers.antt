@@ -1,5 +1,5 @@
 -- `names::is_name` meets its contract: from the loop's place on they are the same exactly if they are from the first.
-use Rattle.std.proofs.Common.{refl, sym, ◌∙◌, ◌≤◌, ◌<◌, arith, length}
+use Rattle.std.proofs.Common.{sym, ◌∙◌, ◌≤◌, ◌<◌, length}
 use Rattle.grids.specs.Headers.{lowered}
 use Rattle.grids.proofs.NameLaws.{lowered_length, lowered_at, other_length, same_next, same_stop, same_end}
 use Rattle.grids.proofs.names.is_name.Goals as goal

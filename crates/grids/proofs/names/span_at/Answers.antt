@@ -1,5 +1,5 @@
 -- `names::span_at` meets its contract: the loop's word is the one of its number.
-use Rattle.grids.proofs.SpanLaws.{word_first, word_then, word_last}
+use Rattle.grids.proofs.SpanLaws.{word_first, word_then}
 use Rattle.grids.proofs.names.span_at.Goals as goal
 
 pub loop-init : goal.loop-init

@@ -6,7 +6,7 @@ use Rattle.paper.specs.State.{State, Day}
 use Rattle.paper.specs.Refusals.{accepted, one_each}
 use Rattle.paper.specs.Day.{Results, Outcome, day_of}
 use Rattle.paper.specs.Reasons.{explained}
-use Rattle.records.specs.Grids.{grid_as, setup_as}
+use Rattle.records.specs.Grids.{grid_as, setup_of}
 use Rattle.records.specs.Past.{state_as}
 use Rattle.records.specs.Days.{day_as}
 use Rattle.records.specs.Verdicts.{verdict_as}
@@ -37,7 +37,7 @@ passed grid n soil snow fits count each =
 
 -- so many entries fit at the fronts of the arrays
 module _ (c : goal.After-copied-lying) where
-  shown : Passed (cells_of (grid_as c.args.grid)) c.cells-n.result c.args.soil.now c.args.snow.now
+  shown : Passed (cells_of (grid_as c.args.setup.now.grid)) c.cells-n.result c.args.soil.now c.args.snow.now
   shown =
       passed _ _ _ _ (sym c.fits.ensures ∙ c.if-not-fits.false) c.cells-n.ensures (sym c.one_each.ensures ∙ c.if-not-one_each.false)
 
@@ -54,8 +54,7 @@ module _ (c : goal.After-copied-lying) where
 module _ (c : goal.After-asked) where
   abbrev s : Setup
   s =
-      setup_as c.args.grid c.args.climate c.args.covers.now c.args.direction.now c.args.cover.now c.args.group.now
-      c.args.available.now
+      setup_of c.args.setup.now
 
   abbrev st : State
   st = state_as c.args.soil.now c.args.snow.now c.args.past
@@ -66,7 +65,7 @@ module _ (c : goal.After-asked) where
   abbrev n : ℕ
   n = c.cells-n.result
 
-  stand : Passed (cells_of (grid_as c.args.grid)) n c.args.soil.now c.args.snow.now
+  stand : Passed (cells_of (grid_as c.args.setup.now.grid)) n c.args.soil.now c.args.snow.now
   stand =
       passed _ _ _ _ (sym c.fits.ensures ∙ c.if-not-fits.false) c.cells-n.ensures (sym c.one_each.ensures ∙ c.if-not-one_each.false)
 
@@ -82,7 +81,7 @@ module _ (c : goal.After-asked) where
   abbrev none : Results
   none = let part = take n (replicate {A = ℕ} 4096 0) in results_as part part part part part
 
-  none_each : one_each (cells_of (grid_as c.args.grid)) (five none) ≡ true
+  none_each : one_each (cells_of (grid_as c.args.setup.now.grid)) (five none) ≡ true
   none_each = rw (sym stand.count) (zeros_each n (rw stand.count stand.few))
 
   abbrev left : Outcome
@@ -94,18 +93,18 @@ module _ (c : goal.After-asked) where
   outcome : left ≡ day_of s st none d
   outcome = told_is c.day-answer.result _ _ _ _ ∙ c.day-answer.ensures ∙ ap (λ (st : State). day_of s st none d) lent
 
-  asked_is : verdict_as c.asked.result ≡ asked_of (cells_of (grid_as c.args.grid)) c.args.cell (day_of s st none d).verdict
+  asked_is : verdict_as c.asked.result ≡ asked_of (cells_of (grid_as c.args.setup.now.grid)) c.args.cell (day_of s st none d).verdict
   asked_is =
       c.asked.ensures
-      ∙ ap (asked_of (cells_of (grid_as c.args.grid)) c.args.cell) c.verdict_of.ensures
-      ∙ ap (λ (o : Outcome). asked_of (cells_of (grid_as c.args.grid)) c.args.cell o.verdict) outcome
+      ∙ ap (asked_of (cells_of (grid_as c.args.setup.now.grid)) c.args.cell) c.verdict_of.ensures
+      ∙ ap (λ (o : Outcome). asked_of (cells_of (grid_as c.args.setup.now.grid)) c.args.cell o.verdict) outcome
 
   -- where it accepts, the cell is in the grid
   module _ (taken : c.asked.result ≡ (Ok tt)) where
-    accepts : asked_of (cells_of (grid_as c.args.grid)) c.args.cell (day_of s st none d).verdict ≡ accepted
+    accepts : asked_of (cells_of (grid_as c.args.setup.now.grid)) c.args.cell (day_of s st none d).verdict ≡ accepted
     accepts = sym asked_is ∙ ap verdict_as taken
 
-    inside : c.args.cell < cells_of (grid_as c.args.grid)
+    inside : c.args.cell < cells_of (grid_as c.args.setup.now.grid)
     inside = (day_accepted s st d c.args.cell none none_each accepts).0
 
     small : c.args.cell < 4096
@@ -114,15 +113,13 @@ module _ (c : goal.After-asked) where
 pub returns-then-not-fits : goal.returns-then-not-fits
 returns-then-not-fits c =
     why_grid
-    (setup_as c.args.grid c.args.climate c.args.covers.now c.args.direction.now c.args.cover.now c.args.group.now
-    c.args.available.now) (state_as c.args.soil.now c.args.snow.now c.args.past) (day_as c.args.day) c.args.cell
+    (setup_of c.args.setup.now) (state_as c.args.soil.now c.args.snow.now c.args.past) (day_as c.args.day) c.args.cell
     (sym c.fits.ensures ∙ c.if-not-fits.true)
 
 pub returns-then-not-one_each : goal.returns-then-not-one_each
 returns-then-not-one_each c =
     why_lent
-    (setup_as c.args.grid c.args.climate c.args.covers.now c.args.direction.now c.args.cover.now c.args.group.now
-    c.args.available.now) (state_as c.args.soil.now c.args.snow.now c.args.past) (day_as c.args.day) c.args.cell
+    (setup_of c.args.setup.now) (state_as c.args.soil.now c.args.snow.now c.args.past) (day_as c.args.day) c.args.cell
     (sym c.fits.ensures ∙ c.if-not-fits.false)
     (ap (λ (k : ℕ). one_each k (length c.args.soil.now ∷ length c.args.snow.now ∷ [])) (sym c.cells-n.ensures)
     ∙ sym c.one_each.ensures ∙ c.if-not-one_each.true)

@@ -5,7 +5,7 @@ use Rattle.paper.specs.Setup.{Setup, cells}
 use Rattle.paper.specs.State.{State}
 use Rattle.paper.specs.Refusals.{one_each}
 use Rattle.paper.specs.Day.{Results}
-use Rattle.records.specs.Grids.{setup_as}
+use Rattle.records.specs.Grids.{setup_of}
 use Rattle.records.specs.Past.{state_as}
 use Rattle.records.specs.Days.{day_as}
 use Rattle.records.specs.Answers.{results_as}
@@ -22,8 +22,7 @@ use Rattle.recharge.proofs.calls.day.Goals as goal
 module _ (c : goal.After-lent_verdict) where
   abbrev setup : Setup
   setup =
-      setup_as c.args.grid c.args.climate c.args.covers.now c.args.direction.now c.args.cover.now c.args.group.now
-      c.args.available.now
+      setup_of c.args.setup.now
 
   abbrev state : State
   state = state_as c.args.soil.now c.args.snow.now c.args.past.now
@@ -55,9 +54,9 @@ pub surveyed_day-requires : goal.surveyed_day-requires
 surveyed_day-requires c =
     let passed = accepted_back _ (sym c.in_ok-survey.was ∙ c.survey.ensures.verdict_is) in
     record {
-      direction = c.args.direction.now;
-      cover = c.args.cover.now;
-      group = c.args.group.now;
+      direction = c.args.setup.now.direction.now;
+      cover = c.args.setup.now.cover.now;
+      group = c.args.setup.now.group.now;
       ready =
           let s = (goal.at.surveyed_day-requires c).After-lent_verdict in
           surveyed_ready (setup s) (state s) (results s) passed (c.survey.ensures.mapped passed) (each s c.in_ok-lent_verdict.was);
@@ -67,5 +66,5 @@ pub returns : goal.returns
 returns c =
     let s = (goal.at.returns c).After-lent_verdict in
     let passed = accepted_back _ (sym c.in_ok-survey.was ∙ c.survey.ensures.verdict_is) in
-    c.surveyed_day.ensures.is c.args.direction.now c.args.cover.now c.args.group.now
+    c.surveyed_day.ensures.is c.args.setup.now.direction.now c.args.setup.now.cover.now c.args.setup.now.group.now
     (surveyed_ready (setup s) (state s) (results s) passed (c.survey.ensures.mapped passed) (each s c.in_ok-lent_verdict.was))

@@ -5,7 +5,7 @@ use lib.ListN.{length}
 use Rattle.paper.specs.Setup.{Setup, cells_of}
 use Rattle.paper.specs.Refusals.{grid, lent, accepted, refused}
 use Rattle.paper.specs.Day.{Fresh}
-use Rattle.records.specs.Grids.{grid_as, setup_as}
+use Rattle.records.specs.Grids.{grid_as, setup_of}
 use Rattle.records.specs.Verdicts.{refusal_as, verdict_as}
 use Rattle.records.specs.declared.verdicts.Refusal.{Refusal}
 use Rattle.records.specs.declared.past.Past.{Past}
@@ -18,8 +18,7 @@ use Rattle.recharge.proofs.periods.period.Goals as goal
 
 abbrev setup : goal.Start → Setup
 setup c =
-    setup_as c.args.grid c.args.climate c.args.covers.now c.args.direction.now c.args.cover.now c.args.group.now
-    c.args.available.now
+    setup_of c.args.setup.now
 
 pub returns-then-not-fits : goal.returns-then-not-fits
 returns-then-not-fits c =
@@ -33,7 +32,7 @@ lists_fit-requires c = rw c.cells.ensures (few_cells _ (sym c.fits.ensures ∙ c
 
 -- what the test of the lists says of them
 listing : (c : goal.After-lists_fit)
-    → c.lists_fit.result ≡ lists_fit (cells_of (grid_as c.args.grid)) (length c.args.days.now) (length c.args.sums.now) (length c.args.totals.now)
+    → c.lists_fit.result ≡ lists_fit (cells_of (grid_as c.args.setup.now.grid)) (length c.args.days.now) (length c.args.sums.now) (length c.args.totals.now)
 listing c =
     c.lists_fit.ensures
     ∙ ap (λ (n : ℕ). lists_fit n (length c.args.days.now) (length c.args.sums.now) (length c.args.totals.now)) c.cells.ensures

@@ -6,7 +6,7 @@ use Rattle.paper.specs.State.{State}
 use Rattle.paper.specs.Day.{Results, Outcome}
 use Rattle.paper.specs.Period.{fresh_run, outcome_on}
 use Rattle.paper.proofs.PeriodLaws.{few_days}
-use Rattle.records.specs.Grids.{setup_as}
+use Rattle.records.specs.Grids.{setup_of}
 use Rattle.records.specs.Past.{state_as}
 use Rattle.records.specs.Days.{day_as}
 use Rattle.records.specs.declared.verdicts.Refusal.{Refusal}
@@ -25,11 +25,10 @@ use Rattle.recharge.proofs.periods.run.Goals as goal
 
 abbrev setup : goal.Start → Setup
 setup c =
-    setup_as c.args.grid c.args.climate c.args.covers.now c.args.direction.now c.args.cover.now c.args.group.now
-    c.args.available.now
+    setup_of c.args.setup.now
 
 -- the width of the grid's lists, which are as long as the setup's
-wet : (c : goal.Start) → length c.args.available.now ≡ cells (setup c)
+wet : (c : goal.Start) → length c.args.setup.now.available.now ≡ cells (setup c)
 wet c = waters_each (setup c) c.requires.passed
 
 few : (c : goal.Start) → cells (setup c) ≤ 4096
@@ -39,11 +38,10 @@ few c = (sound_setup (setup c) c.requires.passed).charted.few
 module _ (c : goal.After-surveyed_day-answer) where
   abbrev s : Setup
   s =
-      setup_as c.args.grid c.args.climate c.args.covers.now c.args.direction.now c.args.cover.now c.args.group.now
-      c.args.available.now
+      setup_of c.args.setup.now
 
   abbrev n : ℕ
-  n = length c.args.available.now
+  n = length c.args.setup.now.available.now
 
   abbrev state : State
   state = state_as c.loop-k.soil c.loop-k.snow c.loop-k.past
@@ -84,7 +82,7 @@ module _ (c : goal.After-surveyed_day-answer) where
       let l = c.loop-k in
       outcome_is s c.args.days.now c.args.totals.now state _ _ _ _ _ _ _ l.k l.invariant full
       (day_as c.day_at-day.result) c.day_at-day.ensures out
-      (c.surveyed_day-answer.ensures.is c.args.direction.now c.args.cover.now c.args.group.now
+      (c.surveyed_day-answer.ensures.is c.args.setup.now.direction.now c.args.setup.now.cover.now c.args.setup.now.group.now
       (surveyed_ready s state _ c.requires.passed (c.survey.ensures.mapped c.requires.passed)
       (each s c.args.days.now c.args.totals.now state _ _ _ _ _ _ _ l.k l.invariant full)))
 
@@ -135,9 +133,9 @@ surveyed_day-answer-requires c =
     let c₀ = (goal.at.surveyed_day-answer-requires c).Start in
     let l = c.loop-k in
     record {
-      direction = c.args.direction.now;
-      cover = c.args.cover.now;
-      group = c.args.group.now;
+      direction = c.args.setup.now.direction.now;
+      cover = c.args.setup.now.cover.now;
+      group = c.args.setup.now.group.now;
       ready =
           surveyed_ready (setup c₀) (state_as l.soil l.snow l.past) _ c.requires.passed (c.survey.ensures.mapped c.requires.passed)
           (each (setup c₀) c.args.days.now c.args.totals.now (state_as l.soil l.snow l.past) _ _ _ _ _ _ _ l.k l.invariant (wet c₀));

@@ -4,7 +4,7 @@ use Rattle.paper.specs.Setup.{Setup, cells, grid_fits}
 use Rattle.paper.specs.Refusals.{grid, lent, accepted, one_each}
 use Rattle.paper.specs.Day.{check_of}
 use Rattle.records.proofs.VerdictLaws.{accepted_back}
-use Rattle.records.specs.Grids.{setup_as}
+use Rattle.records.specs.Grids.{setup_of}
 use Rattle.survey.proofs.CallLaws.{grid_bad, more_bad}
 use Rattle.stores.proofs.FreshLaws.{refused_fresh, survey_fresh, fill_ask, accepted_fresh}
 use Rattle.stores.proofs.fresh_states.fresh.Goals.{Else-not-fits, Else-not-one_each, In_ok-survey, Start}
@@ -12,8 +12,7 @@ use Rattle.stores.proofs.fresh_states.fresh.Goals as goal
 
 abbrev setup : goal.Start → Setup
 setup s =
-    setup_as s.args.grid s.args.climate s.args.covers.now s.args.direction.now s.args.cover.now s.args.group.now
-    s.args.available.now
+    setup_of s.args.setup.now
 
 abbrev stores : goal.Start → List ℕ
 stores s = length s.args.soil.now ∷ length s.args.snow.now ∷ []

@@ -2,7 +2,7 @@
 use Rattle.std.proofs.Common.{Err, [], ◌∷◌, length, rules, ◌≡◌, sym, ◌∙◌}
 use Rattle.paper.specs.Setup.{Setup}
 use Rattle.paper.specs.Refusals.{verdict, accepted, cover_test}
-use Rattle.records.specs.Grids.{setup_as}
+use Rattle.records.specs.Grids.{setup_of}
 use Rattle.records.proofs.VerdictLaws.{refused_not, accepted_back}
 use Rattle.survey.proofs.SurveyLaws.{table_refuses, lay_ask, cell_refuses, order_ask, ring_refuses, climate_refuses, surveyed}
 use Rattle.survey.proofs.charts.chart.Goals.{In_ok-read_covers, Start}
@@ -10,8 +10,7 @@ use Rattle.survey.proofs.charts.chart.Goals as goal
 
 abbrev setup : goal.Start → Setup
 setup s =
-    setup_as s.args.grid s.args.climate s.args.covers.now s.args.direction.now s.args.cover.now s.args.group.now
-    s.args.available.now
+    setup_of s.args.setup.now
 
 pub returns-in_err-read_covers : goal.returns-in_err-read_covers
 returns-in_err-read_covers c =
@@ -21,7 +20,7 @@ returns-in_err-read_covers c =
     (refused_not _ why same)
 
 -- the table is accepted, and its index read
-table : (t : goal.In_ok-read_covers) → verdict (cover_test t.args.covers.now ∷ []) ≡ accepted
+table : (t : goal.In_ok-read_covers) → verdict (cover_test t.args.setup.now.covers.now ∷ []) ≡ accepted
 table t = accepted_back _ (sym t.in_ok-read_covers.was ∙ t.read_covers.ensures.verdict_is)
 
 pub lay_cells-cell-requires : goal.lay_cells-cell-requires

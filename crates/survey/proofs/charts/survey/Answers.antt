@@ -3,7 +3,7 @@ use Rattle.std.proofs.Common.{true, ◌≡◌, sym, ap, ◌∙◌, refl, ℕ}
 use Rattle.paper.specs.Setup.{Setup, cells, grid_fits}
 use Rattle.paper.specs.Refusals.{grid, lent, one_each, setup_lengths}
 use Rattle.paper.specs.Day.{check_of}
-use Rattle.records.specs.Grids.{setup_as}
+use Rattle.records.specs.Grids.{setup_of}
 use Rattle.records.proofs.VerdictLaws.{refused_not}
 use Rattle.survey.proofs.CallLaws.{grid_bad, lent_bad, surveyable, refuse_survey, chart_refuses, chart_passes}
 use Rattle.survey.proofs.charts.survey.Goals.{Else-not-fits, Else-not-one_each, Start}
@@ -11,8 +11,7 @@ use Rattle.survey.proofs.charts.survey.Goals as goal
 
 abbrev setup : goal.Start → Setup
 setup s =
-    setup_as s.args.grid s.args.climate s.args.covers.now s.args.direction.now s.args.cover.now s.args.group.now
-    s.args.available.now
+    setup_of s.args.setup.now
 
 pub returns-then-not-fits : goal.returns-then-not-fits
 unfolding check_of

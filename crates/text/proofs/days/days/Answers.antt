@@ -5,7 +5,7 @@ use Rattle.std.proofs.Common.{◌≡◌, refl, sym, ◌∙◌, ℕ, ◌+◌, ◌
 use Rattle.paper.specs.Setup.{Setup}
 use Rattle.paper.specs.State.{State}
 use Rattle.paper.specs.Day.{Results, no_results}
-use Rattle.records.specs.Grids.{setup_as}
+use Rattle.records.specs.Grids.{setup_of}
 use Rattle.records.specs.Past.{state_as}
 use Rattle.records.specs.Days.{day_as}
 use Rattle.records.specs.Answers.{answered, totals_told, results_as}
@@ -20,14 +20,13 @@ use Rattle.text.proofs.days.days.Goals as goal
 module _ (c : goal.After-day-answer) where
   abbrev setup : Setup
   setup =
-      setup_as c.args.grid c.args.climate c.args.covers.now c.args.direction.now c.args.cover.now c.args.group.now
-      c.args.water.now
+      setup_of c.args.setup.now
 
   abbrev first : State
   first = state_as c.args.soil.now c.args.snow.now c.args.past
 
   abbrev cells : ℕ
-  cells = length c.args.direction.now
+  cells = length c.args.setup.now.direction.now
 
   abbrev state : State
   state = state_as c.loop-k.soil c.loop-k.snow c.loop-k.past
