@@ -25,8 +25,10 @@ use Rattle.grids.specs.declared.judging.BadGrid.{BadGrid}
 use Rattle.std.specs.Prelude.{Result, Ok, Err}
 use Rattle.grids.proofs.AcceptedLaws.{Fit, fit, header_fit}
 use Rattle.grids.proofs.AnswerLaws.{header_back, reads_verdict}
+use Rattle.desk.specs.declared.faults.GridFile.TheVariants.{Direction, Cover, Group, Water}
 use Rattle.desk.specs.declared.faults.Fault.{Fault}
 use Rattle.desk.specs.declared.faults.Fault.TheVariants.{Size}
+use Rattle.desk.specs.declared.faults.GridFile.{GridFile}
 use Rattle.desk.specs.Faults.{Tested, ◌then◌}
 use Rattle.desk.specs.Sheets.{Sheet, sheet_of, header_told, sheet_as, test_read, test_match, test_grids}
 use Rattle.desk.specs.Texts.{Files, Cells, cells_by, cell_line, cell_lines, setup_text, cells_in, text_of}
@@ -68,12 +70,12 @@ module _ {text : List ℕ} {before after : List ℤ} {r : Result code.Header Bad
         rw all (over_front (cells_read text) before (pos 0) i (omega (arith, room, (fits text yes).counted, few_cells text yes)) (omega (arith, (fits text yes).counted)))
 
 -- ---- grids in which nothing is wrong
-none_refused : (file : ℕ) (v : Verdict) → test_read file v ≡ Ok tt → v ≡ accepted
+none_refused : (file : GridFile) (v : Verdict) → test_read file v ≡ Ok tt → v ≡ accepted
 unfolding test_read
 none_refused file accepted e = refl
 none_refused file (refused place) e = absurd (let o : ◌≡◌ {A = ℕ} 0 1 = cc in omega arith)
 
-same_size : (file : ℕ) (h first : Header) → test_match file h first ≡ Ok tt → cells_of h.grid ≡ cells_of first.grid
+same_size : (file : GridFile) (h first : Header) → test_match file h first ≡ Ok tt → cells_of h.grid ≡ cells_of first.grid
 unfolding test_match cells_of
 same_size file h first e =
     let columns = eqb h.grid.width first.grid.width in
@@ -105,10 +107,10 @@ pub record Got (f : Files) (d c g w : List ℤ) (direction cover group water : R
 module _ {f : Files} {d c g w : List ℤ} {direction cover group water : Result code.Header BadGrid} (got : Got f d c g w direction cover group water) where
   abbrev refusals : Tested
   refusals =
-      test_read 0 (read_verdict f.direction most_cells)
-      then test_read 1 (read_verdict f.cover most_cells)
-      then test_read 2 (read_verdict f.group most_cells)
-      then test_read 3 (read_verdict f.water most_cells)
+      test_read Direction (read_verdict f.direction most_cells)
+      then test_read Cover (read_verdict f.cover most_cells)
+      then test_read Group (read_verdict f.group most_cells)
+      then test_read Water (read_verdict f.water most_cells)
 
   record Taken : Type 0 where
     first : Accepted f.direction
@@ -119,10 +121,10 @@ module _ {f : Files} {d c g w : List ℤ} {direction cover group water : Result 
   taken : refusals ≡ Ok tt → Taken
   taken e =
       record {
-        first = none_refused 0 _ (passed_before _ _ (passed_before _ _ (passed_before _ _ e)));
-        second = none_refused 1 _ (passed_after _ _ (passed_before _ _ (passed_before _ _ e)));
-        third = none_refused 2 _ (passed_after _ _ (passed_before _ _ e));
-        fourth = none_refused 3 _ (passed_after _ _ e);
+        first = none_refused Direction _ (passed_before _ _ (passed_before _ _ (passed_before _ _ e)));
+        second = none_refused Cover _ (passed_after _ _ (passed_before _ _ (passed_before _ _ e)));
+        third = none_refused Group _ (passed_after _ _ (passed_before _ _ e));
+        fourth = none_refused Water _ (passed_after _ _ e);
       }
 
   -- a header counts only where no grid is refused
@@ -164,15 +166,15 @@ module _ {f : Files} {d c g w : List ℤ} {direction cover group water : Result 
 
     cover_cells : cells_of (header_read f.cover).grid ≡ cells
     unfolding test_grids
-    cover_cells = same_size 1 _ _ (passed_after _ _ (passed_before _ _ (passed_before _ _ none)))
+    cover_cells = same_size Cover _ _ (passed_after _ _ (passed_before _ _ (passed_before _ _ none)))
 
     group_cells : cells_of (header_read f.group).grid ≡ cells
     unfolding test_grids
-    group_cells = same_size 2 _ _ (passed_after _ _ (passed_before _ _ none))
+    group_cells = same_size Group _ _ (passed_after _ _ (passed_before _ _ none))
 
     water_cells : cells_of (header_read f.water).grid ≡ cells
     unfolding test_grids
-    water_cells = same_size 3 _ _ (passed_after _ _ none)
+    water_cells = same_size Water _ _ (passed_after _ _ none)
 
     grid_read : grid_as (header_told direction).grid ≡ (header_read f.direction).grid
     grid_read = ap (λ (s : Sheet). s.header.grid) (sheet_read got.room got.directions all_taken.first)

@@ -7,6 +7,7 @@ use lib.Pointwise.{pointwise}
 use Rattle.grids.specs.Headers.{same}
 use Rattle.grids.specs.Given.{header_as}
 use Rattle.grids.specs.declared.headers.Header.{Header}
+use Rattle.desk.specs.declared.faults.GridFile.{GridFile}
 use Rattle.desk.specs.Faults.{Tested}
 use Rattle.desk.specs.Sheets.{test_match}
 
@@ -19,6 +20,6 @@ same_pointwise (x ∷ xs) (y ∷ ys) = rw (same_pointwise xs ys) refl
 
 -- a grid compared with the first, by the headers that their reads tell
 pub matched :
-    {h h' first first' : Header} {t : Tested} (file : ℕ) → h ≡ h' → first ≡ first' → t ≡ test_match file (header_as h) (header_as first)
+    {h h' first first' : Header} {t : Tested} (file : GridFile) → h ≡ h' → first ≡ first' → t ≡ test_match file (header_as h) (header_as first)
     → test_match file (header_as h') (header_as first') ≡ t
 matched file eh ef e = sym (rw (eh, ef) at e)

@@ -8,4 +8,4 @@ mod sheets;
 mod texts;
 
 pub use answers::setup_text;
-pub use faults::Fault;
+pub use faults::{Fault, GridFile};

@@ -5,7 +5,7 @@ ghost use Rattle.grids.specs.Given.{text_as, header_as, verdict_as};
 ghost use Rattle.desk.specs.Faults.{headed};
 ghost use Rattle.desk.specs.Sheets.{test_read, test_match, test_grids, header_told, sheet_as};
 
-use crate::faults::Fault;
+use crate::faults::{Fault, GridFile};
 use grids::{BadGrid, Header, Measure};
 use records::Grid;
 
@@ -17,7 +17,7 @@ fn same_text(text: Measure, other: Measure) -> bool
 }
 
 #[tactic(auto, unfolding(crate::specs::Faults::headed, crate::specs::Sheets::test_read, grids::specs::Judging::grid_place))]
-fn test_read(file: u32, grid: Result<Header, BadGrid>) -> Result<Header, Fault>
+fn test_read(file: GridFile, grid: Result<Header, BadGrid>) -> Result<Header, Fault>
     ensures { result ≡ headed (test_read file (verdict_as grid)) (header_told grid) }
 {
     grid.map_err(|bad| Fault::Refused(file, bad.place()))
@@ -36,7 +36,7 @@ fn same_corner(header: Header, first: Header) -> bool
     same_text(header.x_corner, first.x_corner) & same_text(header.y_corner, first.y_corner)
 }
 
-fn test_match(file: u32, header: Header, first: Header) -> Result<(), Fault>
+fn test_match(file: GridFile, header: Header, first: Header) -> Result<(), Fault>
     ensures { result ≡ test_match file (header_as header) (header_as first) }
 {
     if !same_size(header.grid, first.grid) {
@@ -60,12 +60,12 @@ pub(crate) fn test_grids(
 ) -> Result<Header, Fault>
     ensures { result ≡ headed (test_grids (sheet_as direction) (sheet_as cover) (sheet_as group) (sheet_as water)) (header_told direction) }
 {
-    let first = test_read(0, direction)?;
-    let second = test_read(1, cover)?;
-    let third = test_read(2, group)?;
-    let fourth = test_read(3, water)?;
-    test_match(1, second, first)?;
-    test_match(2, third, first)?;
-    test_match(3, fourth, first)?;
+    let first = test_read(GridFile::Direction, direction)?;
+    let second = test_read(GridFile::Cover, cover)?;
+    let third = test_read(GridFile::Group, group)?;
+    let fourth = test_read(GridFile::Water, water)?;
+    test_match(GridFile::Cover, second, first)?;
+    test_match(GridFile::Group, third, first)?;
+    test_match(GridFile::Water, fourth, first)?;
     Ok(first)
 }

@@ -16,7 +16,7 @@ pub use calls::day;
 pub use periods::{Ended, period};
 pub use records::{
     Climate, CurveNumber, DayRecord, Depth, FrostIndex, Grid, Memory, Past, Refusal, Season,
-    Setpoints, TenthF, Totals,
+    Setpoints, Setup, TenthF, Totals,
 };
 pub use stores::fresh;
 pub use survey::check;

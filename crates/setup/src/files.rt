@@ -2,6 +2,7 @@
 ghost use Rattle.intake.specs.Input.{Within};
 
 use crate::wrong::Wrong;
+use desk::GridFile;
 use intake::{Name, Unread, argument_count, name_given, path_of};
 use std::rt::{Env, Files};
 
@@ -37,13 +38,12 @@ impl Names {
         all_named(rt).ok_or(Wrong::LongName)
     }
 
-    // The grids are numbered in the order of the arguments, as `desk::Fault` numbers them.
-    pub(crate) fn grid(&self, file: u32) -> &Name {
+    pub(crate) fn grid(&self, file: GridFile) -> &Name {
         match file {
-            0 => &self.direction,
-            1 => &self.cover,
-            2 => &self.group,
-            _ => &self.water,
+            GridFile::Direction => &self.direction,
+            GridFile::Cover => &self.cover,
+            GridFile::Group => &self.group,
+            GridFile::Water => &self.water,
         }
     }
 }

@@ -1,6 +1,6 @@
 // What can go wrong, as it is said on standard error.
 use crate::files::Names;
-use desk::Fault;
+use desk::{Fault, GridFile};
 use intake::{Failure, Name, Unread, Words};
 use std::fmt;
 use std::fmt::{Display, Formatter};
@@ -34,7 +34,7 @@ struct Named<'a> {
 
 impl Display for Named<'_> {
     fn fmt<W: fmt::Write>(&self, f: &mut Formatter<W>) -> fmt::Result {
-        let of = |file: u32| words(self.names.grid(file));
+        let of = |file: GridFile| words(self.names.grid(file));
         let first = words(&self.names.direction);
         match self.fault {
             Fault::Refused(file, place) => write!(f, "{}: refused 12 at {place}", of(file)),

@@ -1,4 +1,5 @@
 // The folder that is asked about, and the files in it.
+use desk::GridFile;
 use intake::{Words, path_of};
 use std::fmt::{Display, Formatter, InlineText};
 use std::{fmt, io};
@@ -41,13 +42,12 @@ impl Source {
         }
     }
 
-    // A grid, by the number that `desk::Fault` has for it.
-    pub(crate) fn grid(file: u32) -> Source {
+    pub(crate) fn grid(file: GridFile) -> Source {
         match file {
-            0 => Source::Direction,
-            1 => Source::Cover,
-            2 => Source::Group,
-            _ => Source::Water,
+            GridFile::Direction => Source::Direction,
+            GridFile::Cover => Source::Cover,
+            GridFile::Group => Source::Group,
+            GridFile::Water => Source::Water,
         }
     }
 }

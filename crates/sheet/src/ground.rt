@@ -3,7 +3,7 @@ ghost use Rattle.intake.specs.Input.{Within};
 
 use crate::folder::{Folder, Place, Source};
 use crate::wrong::{Measure, What, Wrong};
-use desk::Fault;
+use desk::{Fault, GridFile};
 use grids::{Header, read_grid};
 use intake::Unread;
 use records::MOST_CELLS;
@@ -34,7 +34,7 @@ fn written_header(direction: &[u8]) -> Header {
 }
 
 // A grid that is not over the same cells as the first.
-fn other(folder: Folder<'_>, file: u32, measure: Measure) -> Wrong<'_> {
+fn other(folder: Folder<'_>, file: GridFile, measure: Measure) -> Wrong<'_> {
     let first = folder.source(Source::Direction);
     Wrong::At(
         folder.source(Source::grid(file)),

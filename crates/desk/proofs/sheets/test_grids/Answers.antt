@@ -1,5 +1,6 @@
 -- `sheets::test_grids` meets its contract: its seven tests, one after another.
 use Rattle.std.proofs.Common.{◌≡◌, refl, rules, Err}
+use Rattle.desk.specs.declared.faults.GridFile.TheVariants.{Cover, Group, Water}
 use Rattle.desk.specs.Faults.{◌then◌, headed}
 use Rattle.desk.specs.Sheets.{test_grids}
 use Rattle.desk.proofs.FaultLaws.{headed_ok, headed_err}
@@ -38,7 +39,7 @@ returns-in_err-test_match c =
     let third = headed_ok _ _ c.in_ok-third.ensures in
     let fourth = headed_ok _ _ c.in_ok-fourth.ensures in
     let same : c.from_residual-in_err-test_match.result ≡ Err c.in_err-test_match.field-0.0 = search rules in
-    rw (same, first.0, second.0, third.0, fourth.0, matched 1 second.1 first.1 c.in_err-test_match.ensures) refl
+    rw (same, first.0, second.0, third.0, fourth.0, matched Cover second.1 first.1 c.in_err-test_match.ensures) refl
 
 pub returns-in_err-test_match-2 : goal.returns-in_err-test_match-2
 unfolding test_grids ◌then◌ headed
@@ -48,7 +49,7 @@ returns-in_err-test_match-2 c =
     let third = headed_ok _ _ c.in_ok-third.ensures in
     let fourth = headed_ok _ _ c.in_ok-fourth.ensures in
     let same : c.from_residual-in_err-test_match-2.result ≡ Err c.in_err-test_match-2.field-0.0 = search rules in
-    rw (same, first.0, second.0, third.0, fourth.0, matched 1 second.1 first.1 c.in_ok-test_match.ensures, matched 2 third.1 first.1 c.in_err-test_match-2.ensures) refl
+    rw (same, first.0, second.0, third.0, fourth.0, matched Cover second.1 first.1 c.in_ok-test_match.ensures, matched Group third.1 first.1 c.in_err-test_match-2.ensures) refl
 
 pub returns-in_err-test_match-3 : goal.returns-in_err-test_match-3
 unfolding test_grids ◌then◌ headed
@@ -58,7 +59,7 @@ returns-in_err-test_match-3 c =
     let third = headed_ok _ _ c.in_ok-third.ensures in
     let fourth = headed_ok _ _ c.in_ok-fourth.ensures in
     let same : c.from_residual-in_err-test_match-3.result ≡ Err c.in_err-test_match-3.field-0.0 = search rules in
-    rw (same, first.0, second.0, third.0, fourth.0, matched 1 second.1 first.1 c.in_ok-test_match.ensures, matched 2 third.1 first.1 c.in_ok-test_match-2.ensures, matched 3 fourth.1 first.1 c.in_err-test_match-3.ensures) refl
+    rw (same, first.0, second.0, third.0, fourth.0, matched Cover second.1 first.1 c.in_ok-test_match.ensures, matched Group third.1 first.1 c.in_ok-test_match-2.ensures, matched Water fourth.1 first.1 c.in_err-test_match-3.ensures) refl
 
 pub returns : goal.returns
 unfolding test_grids ◌then◌ headed
@@ -67,4 +68,4 @@ returns c =
     let second = headed_ok _ _ c.in_ok-second.ensures in
     let third = headed_ok _ _ c.in_ok-third.ensures in
     let fourth = headed_ok _ _ c.in_ok-fourth.ensures in
-    rw (first.0, second.0, third.0, fourth.0, matched 1 second.1 first.1 c.in_ok-test_match.ensures, matched 2 third.1 first.1 c.in_ok-test_match-2.ensures, matched 3 fourth.1 first.1 c.in_ok-test_match-3.ensures, first.1) refl
+    rw (first.0, second.0, third.0, fourth.0, matched Cover second.1 first.1 c.in_ok-test_match.ensures, matched Group third.1 first.1 c.in_ok-test_match-2.ensures, matched Water fourth.1 first.1 c.in_ok-test_match-3.ensures, first.1) refl
