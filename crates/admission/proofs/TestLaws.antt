@@ -33,7 +33,7 @@ clash : (why : Refusal) → accepted ≡ refused why → ⊥
 clash why e = let z : ◌≡◌ {A = ℕ} 0 1 = cc in omega arith
 
 -- a refusal of the first tests stands, whatever comes after them
-pub stands : (us vs : List Test) (v : code.Verdict) → v ≡ verdict_in (verdict us) → (v ≡ (Ok tt) → ⊥) → v ≡ verdict_in (verdict (us ++ vs))
+pub stands : (us vs : List Test) (v : code.Verdict) → v ≡ verdict_in (verdict us) → (v ≡ Ok tt → ⊥) → v ≡ verdict_in (verdict (us ++ vs))
 stands us vs v e not = go (verdict us) refl
   where
     go : (u : Verdict) → verdict us ≡ u → v ≡ verdict_in (verdict (us ++ vs))

@@ -83,6 +83,3 @@ module _ (f : Files) (before after : List ℕ) (r : Result ℕ Fault) (n : ℕ) 
 
   pub text_within : n ≤ length after
   text_within = omega (arith, count_is, fits, ap length written ∙ length-sets before 0 (text_of f))
-
-  pub text_front : take n after ≡ text_of f
-  text_front = rw (written, sets-eq (text_of f) before 0 (omega (arith, fits)), count_is) (take_at (text_of f) _ (length (text_of f)) refl)

@@ -36,8 +36,8 @@ fn figures_at(
     }
 }
 
-// Writes the day's two lines from the buffer's front on, as many bytes as fit, and takes the stores and the past to its end; of a day that is refused, its refusal, and nothing
-// else changes.
+// Writes the day's two lines from the buffer's front on, as many bytes as fit, and takes the stores and the past to its end; of a day that is refused, its
+// refusal, and nothing else changes.
 pub fn explain_day(
     setup: &Setup<'_>,
     soil: &mut [u32],

@@ -1,5 +1,6 @@
-// The library beside outside tables: prints what it answers for the figures that documents 000, 002, 003 and 004 print or fit, for the melt by the maximum and for a winter's frost. bench/outside.sh sets
-// these lines beside theirs in docs/VECTORS.md. Every figure is read off days of one cell that drains over the edge, since the rules are private.
+// The library beside outside tables: prints what it answers for the figures that documents 000, 002, 003 and 004 print or fit, for the melt by the maximum
+// and for a winter's frost. bench/outside.sh sets these lines beside theirs in docs/VECTORS.md. Every figure is read
+// off days of one cell that drains over the edge, since the rules are private.
 #![tactic(auto)]
 
 mod curve_numbers;

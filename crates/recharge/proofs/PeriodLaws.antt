@@ -159,12 +159,12 @@ module _ (s : Setup) (ns : List ℤ) (totals₀ : List ℕ) (st : State) (sums t
         ap (λ (x : Outcome). x.state)
         (is ∙ refused_is s _ _ _ why (sym (verdict_is s _ _ _) ∙ sym verdict_same ∙ v))
 
-    refused_by : (v : code.Verdict) → out.verdict ≡ verdict_as v → (v ≡ (Ok tt) → ⊥) → out.state ≡ (after s (fresh_run s) (day_in ns) k).state
+    refused_by : (v : code.Verdict) → out.verdict ≡ verdict_as v → (v ≡ Ok tt → ⊥) → out.state ≡ (after s (fresh_run s) (day_in ns) k).state
     refused_by (Ok tt) e not = absurd (not refl)
     refused_by (Err why) e not = refused_state (refusal_as why) e
 
     -- and ends the period
-    pub refused_ends : (v : code.Verdict) → out.verdict ≡ verdict_as v → (v ≡ (Ok tt) → ⊥) → k < length ns / 7
+    pub refused_ends : (v : code.Verdict) → out.verdict ≡ verdict_as v → (v ≡ Ok tt → ⊥) → k < length ns / 7
         → (soil snow : List ℕ) (past : Past) → state_as soil snow past ≡ out.state
         → Went s ns totals₀ (record { verdict = v; days = k; past = past }) soil snow sums totals
     unfolding verdict_at

@@ -1,5 +1,5 @@
 -- A period as a call hands it over and back: seven numbers a day, five sums a cell, and seven totals a day.
-use Rattle.std.specs.Prelude.{Bool, cond, ◌&&◌, List, [], ◌∷◌, ◌++◌, ◌≡◌, ℕ, ◌+◌, ◌*◌, ◌/◌, ◌%◌, ◌≤◌, ◌<◌, eqb, ltb, ℤ, length, get_or}
+use Rattle.std.specs.Prelude.{Bool, cond, ◌&&◌, List, [], ◌∷◌, ◌++◌, ◌≡◌, ℕ, ◌+◌, ◌*◌, ◌/◌, ◌%◌, ◌≤◌, ◌<◌, eqb, ltb, ℤ, length, get_or, Ok}
 use Rattle.std.proofs.lemmas.List.Edits.{sets}
 use Rattle.paper.specs.Setup.{Setup, cells, grid_fits}
 use Rattle.paper.specs.State.{State, Day, fresh_state, no_past}
@@ -8,7 +8,6 @@ use Rattle.paper.specs.Day.{Results, check_of}
 use Rattle.paper.specs.Period.{fresh_run, after, outcome_on, AllAccepted, summed}
 use Rattle.records.specs.Past.{past_as, state_as}
 use Rattle.records.specs.Verdicts.{verdict_as}
-use Rattle.std.specs.Prelude.{Ok}
 use Rattle.daybook.specs.Days.{day_in}
 use Rattle.daybook.specs.Totals.{ledger}
 use Rattle.recharge.specs.Totals.{roomy}
@@ -85,7 +84,7 @@ pub record Went (s : Setup) (ns : List ℤ) (totals₀ : List ℕ) (r : Ended) (
   pub within : r.days ≤ length ns / 7
   pub before : AllAccepted s (fresh_run s) (day_in ns) r.days
   pub verdict_is : verdict_as r.verdict ≡ verdict_at s ns r.days
-  pub whole : r.verdict ≡ (Ok tt) → r.days ≡ length ns / 7
+  pub whole : r.verdict ≡ Ok tt → r.days ≡ length ns / 7
   pub state_is : state_as soil snow r.past ≡ (after s (fresh_run s) (day_in ns) r.days).state
   pub sums_are : SumsOf s (day_in ns) r.days sums
   pub totals_are : totals ≡ sets totals₀ 0 (ledger (λ j. (outcome_on s (fresh_run s) (day_in ns) j).totals) r.days)

@@ -69,7 +69,7 @@ module _ (s : Setup) where
     unfolding check_of
     check_is = on_the_map (setup_lengths s) grid each
 
-    pub chart_refuses : (before ways₀ : List ℕ) (r : code.Verdict) (slots ways order : List ℕ) → r ≡ verdict_in (verdict (map_tests s)) → (r ≡ (Ok tt) → ⊥) → Wiped slots ways order
+    pub chart_refuses : (before ways₀ : List ℕ) (r : code.Verdict) (slots ways order : List ℕ) → r ≡ verdict_in (verdict (map_tests s)) → (r ≡ Ok tt → ⊥) → Wiped slots ways order
         → Surveyed s before ways₀ r slots ways order
     chart_refuses before ways₀ r slots ways order e not wiped = go (verdict (map_tests s)) refl
       where

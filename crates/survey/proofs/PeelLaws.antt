@@ -18,8 +18,7 @@ use Rattle.theory.specs.Ways.{on_ring, OneWay}
 use Rattle.theory.proofs.Cases.{by_cases, below_or_not, and_second}
 use Rattle.theory.proofs.SumLaws.{sum_most, given_most}
 use Rattle.theory.proofs.LowestLaws.{lowest_cong, lowest_none, none_lowest}
-use Rattle.std.specs.Prelude.{Option}
-use Rattle.std.specs.Prelude.{Some, None}
+use Rattle.std.specs.Prelude.{Option, Some, None}
 use Rattle.records.specs.Places.{place_in}
 use Rattle.survey.specs.Charts.{OrderedBy}
 use Rattle.survey.specs.Order.{OrderOrRing, leading, waits, queued, Counted, Queue, GatheredHeld, QueueHeld, ahead, PeeledHeld}
@@ -267,7 +266,7 @@ module _ {n : ℕ} {next : ℕ → ℕ} {sources tail : ℕ} {l : List ℕ} (p :
       none : (i : ℕ) → i < n → waits l i ≡ 0
       none i a = ⊎_elim (λ e. e) (λ w. absurd (omega (arith, room p.kept.queue i a w))) (eq-zero-or-pos (waits l i))
 
-  pub some_left : {r : (Option ℕ)} → r ≡ place_in (lowest n (λ i. ltb 0 (waits l i))) → OrderOrRing n next r l
+  pub some_left : {r : Option ℕ} → r ≡ place_in (lowest n (λ i. ltb 0 (waits l i))) → OrderOrRing n next r l
   some_left {r} e = record { ring = e ∙ ap place_in rings; ordered = λ f. ordered_by (none (sym e ∙ f)) }
     where
       none : place_in (lowest n (λ i. ltb 0 (waits l i))) ≡ None → (i : ℕ) → i < n → waits l i ≡ 0

@@ -21,7 +21,7 @@ use Rattle.records.specs.Verdicts.{refusal_in, verdict_in}
 use Rattle.survey.specs.Charts.{Surveyable, Chart, slot_of, next_as, WaysFit, OrderedBy}
 use Rattle.survey.specs.Order.{Counted, OrderOrRing}
 use Rattle.survey.specs.Cells.{slot_at, way_at, Layable, LaidOrBad}
-use Rattle.std.specs.Prelude.{Ok, Err}
+use Rattle.std.specs.Prelude.{Option, Some, None, Ok, Err}
 use Rattle.paper.proofs.SetupLaws.{Charted, next_past}
 use Rattle.survey.proofs.SlotLaws.{index_fits, index_entered, slot_test, slot_is}
 use Rattle.survey.proofs.CellLaws.{way_is}
@@ -30,8 +30,6 @@ use Rattle.records.specs.Verdicts as code
 use Rattle.covers.specs.Table.{EntriesFit, index_of}
 use Rattle.covers.proofs.TableLaws.{accepted_table}
 use Rattle.records.specs.Places.{place_in}
-use Rattle.std.specs.Prelude.{Option}
-use Rattle.std.specs.Prelude.{Some, None}
 
 module _ (s : Setup) where
   abbrev cell_test : Test
@@ -54,7 +52,7 @@ module _ (s : Setup) where
       }
 
   pub table_refuses : (lent ways₀ : List ℕ) (r : code.Verdict) (slots ways order : List ℕ) → r ≡ verdict_in (verdict (cover_test s.covers ∷ []))
-      → (r ≡ (Ok tt) → ⊥) → Chart s lent ways₀ r slots ways order
+      → (r ≡ Ok tt → ⊥) → Chart s lent ways₀ r slots ways order
   unfolding map_tests
   table_refuses lent ways₀ r slots ways order e not = go (verdict (cover_test s.covers ∷ [])) refl
     where
@@ -115,7 +113,7 @@ module _ (s : Setup) (lent ways₀ : List ℕ) (pre : Surveyable s) (table : ver
         ways_sized = ways_sized;
       }
 
-  module _ (r : (Option ℕ)) (slots ways counts : List ℕ) (lb : LaidOrBad (s.grid.width * s.grid.height) slot way r lent slots ways₀ ways counts) where
+  module _ (r : Option ℕ) (slots ways counts : List ℕ) (lb : LaidOrBad (s.grid.width * s.grid.height) slot way r lent slots ways₀ ways counts) where
     search_is : r ≡ place_in (lowest (cells s) (λ i. not (cell_fits s i)))
     unfolding cells_of
     search_is = lb.lowest_bad ∙ ap place_in (lowest_cong (cells s) _ _ (λ i h. slot_test s index fit known i))
@@ -167,7 +165,7 @@ module _ (s : Setup) (lent ways₀ : List ℕ) (pre : Surveyable s) (table : ver
       pub order_ask : WaysFit (length s.direction) ways × Counted (length s.direction) (next_as (length s.direction) ways) (length s.direction) counts
       order_ask = rw pre.directions (record { most = pre.few; sized = ways_whole }, counts_are)
 
-      module _ (found : (Option ℕ)) (order : List ℕ) (o : OrderOrRing (length s.direction) (next_as (length s.direction) ways) found order) where
+      module _ (found : Option ℕ) (order : List ℕ) (o : OrderOrRing (length s.direction) (next_as (length s.direction) ways) found order) where
         ring_is : found ≡ place_in (lowest (cells s) (on_ring (cells s) (next s)))
         ring_is = rw (pre.directions, ways_point) at o.ring
 

@@ -1,5 +1,5 @@
 -- How the code finds a cell's slot, by the index of the cover table, and where it points, by its row and column.
-use Rattle.std.specs.Prelude.{◌≡◌, cond, ◌&&◌, List, ℕ, suc, ◌+◌, ◌*◌, ◌-◌, ◌≤◌, eqb, leb, length, get_or}
+use Rattle.std.specs.Prelude.{◌≡◌, cond, ◌&&◌, List, ℕ, suc, ◌+◌, ◌*◌, ◌-◌, ◌≤◌, eqb, leb, length, get_or, Option, None}
 use Rattle.theory.specs.Lists.{made_over}
 use Rattle.theory.specs.Lowest.{lowest}
 use Rattle.paper.specs.Limits.{within, most_cells, most_available_water}
@@ -7,8 +7,6 @@ use Rattle.paper.specs.Covers.{entries}
 use Rattle.paper.specs.Directions.{way_of, goes_by}
 use Rattle.paper.specs.Setup.{pointed}
 use Rattle.records.specs.Places.{place_in}
-use Rattle.std.specs.Prelude.{Option}
-use Rattle.std.specs.Prelude.{Some, None}
 use Rattle.covers.specs.Slots.{open_at}
 use Rattle.survey.specs.Ways.{goes_from}
 use Rattle.survey.specs.Order.{Counted}
@@ -52,7 +50,7 @@ pub record Layable (width height : ℕ) (index covers direction cover group avai
   pub ways_sized : length ways ≡ 4096
 
 -- the lowest cell without a slot; and where there is none, the slots and the ways over the front of their arrays, and how many cells lead to each
-pub record LaidOrBad (n : ℕ) (slot way : ℕ → ℕ) (r : (Option ℕ)) (slots₀ slots ways₀ ways order : List ℕ) : Type 0 where
+pub record LaidOrBad (n : ℕ) (slot way : ℕ → ℕ) (r : Option ℕ) (slots₀ slots ways₀ ways order : List ℕ) : Type 0 where
   pub lowest_bad : r ≡ place_in (lowest n (λ i. eqb (slot i) 256))
   pub slotted : r ≡ None → slots ≡ made_over n slot slots₀
   pub laid : r ≡ None → ways ≡ made_over n way ways₀

@@ -1,12 +1,10 @@
 -- Peeling the cells off upslope first, in one array: entry i is 8192 × the number of cells that i still waits for, plus the cell that stands
 -- at place i of the queue. The queue holds the cells that wait for none, the sources first. From each source the peeling goes down for as long as
 -- the next cell waits for no other, and takes it as it joins the queue.
-use Rattle.std.specs.Prelude.{◌≡◌, Bool, false, cond, ◌&&◌, List, ℕ, ◌+◌, ◌*◌, ◌/◌, ◌%◌, ◌≤◌, ◌<◌, eqb, leb, ltb, length, get_or, set}
+use Rattle.std.specs.Prelude.{◌≡◌, Bool, false, cond, ◌&&◌, List, ℕ, ◌+◌, ◌*◌, ◌/◌, ◌%◌, ◌≤◌, ◌<◌, eqb, leb, ltb, length, get_or, set, Option, None}
 use Rattle.theory.specs.Sums.{sum, given}
 use Rattle.theory.specs.Ways.{on_ring}
 use Rattle.theory.specs.Lowest.{lowest}
-use Rattle.std.specs.Prelude.{Option}
-use Rattle.std.specs.Prelude.{Some, None}
 use Rattle.records.specs.Places.{place_in}
 use Rattle.survey.specs.Charts.{OrderedBy}
 
@@ -80,6 +78,6 @@ pub record PeeledHeld (n : ℕ) (next : ℕ → ℕ) (head sources tail : ℕ) (
   pub still : (t : ℕ) → t < tail → rest (queued l t) ≡ ahead head sources t
 
 -- the lowest cell on a ring; and where there is none, the order
-pub record OrderOrRing (n : ℕ) (next : ℕ → ℕ) (r : (Option ℕ)) (l : List ℕ) : Type 0 where
+pub record OrderOrRing (n : ℕ) (next : ℕ → ℕ) (r : Option ℕ) (l : List ℕ) : Type 0 where
   pub ring : r ≡ place_in (lowest n (on_ring n next))
   pub ordered : r ≡ None → OrderedBy n next l

@@ -100,7 +100,7 @@ module _ (c : goal.After-asked) where
       ∙ ap (λ (o : Outcome). asked_of (cells_of (grid_as c.args.setup.now.grid)) c.args.cell o.verdict) outcome
 
   -- where it accepts, the cell is in the grid
-  module _ (taken : c.asked.result ≡ (Ok tt)) where
+  module _ (taken : c.asked.result ≡ Ok tt) where
     accepts : asked_of (cells_of (grid_as c.args.setup.now.grid)) c.args.cell (day_of s st none d).verdict ≡ accepted
     accepts = sym asked_is ∙ ap verdict_as taken
 

@@ -32,7 +32,7 @@ module _ (c : goal.After-lent_verdict) where
       results_as c.args.intercepted.now c.args.outflow.now c.args.evapotranspired.now c.args.recharged.now c.args.rejected.now
 
   -- the stores and the results have one entry a cell
-  each : c.lent_verdict.result ≡ (Ok tt) → one_each (cells setup) (lent_lengths state results) ≡ true
+  each : c.lent_verdict.result ≡ Ok tt → one_each (cells setup) (lent_lengths state results) ≡ true
   each lent = lent_passes _ _ (accepted_back _ (sym lent ∙ c.lent_verdict.ensures))
 
 pub returns-in_err-lent_verdict : goal.returns-in_err-lent_verdict

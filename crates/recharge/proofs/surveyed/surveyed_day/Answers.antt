@@ -50,7 +50,7 @@ module _ (direction cover group : List ℕ) (c : goal.After-day_verdict) where
         (replicate 1536 0) c.day_verdict.new.plots c.day_verdict.ensures.0 _ c.day_verdict.ensures.1
 
     -- an accepted day passed all the tests
-    module _ (accepts : c.day_verdict.result ≡ (Ok tt)) where
+    module _ (accepts : c.day_verdict.result ≡ Ok tt) where
       passed : verdict_of setup (state c) (results c) (date c) ≡ accepted
       passed = accepted_back _ (sym accepts ∙ told)
 
