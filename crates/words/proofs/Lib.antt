@@ -4,3 +4,4 @@ pub mod DigitLaws
 pub mod SolidLaws
 pub mod WritingLaws
 pub mod InchesLaws
+pub mod FormatLaws

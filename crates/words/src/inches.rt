@@ -1,4 +1,5 @@
 // A depth as it is told: in inches with four decimals.
+ghost use Rattle.std.specs.Prelude.{Some};
 ghost use Rattle.words.specs.Writing.{Put, Wrote};
 ghost use Rattle.words.specs.Inches.{four_digits, inches, most_inches};
 
@@ -30,6 +31,8 @@ pub fn put_inches(buffer: &mut [u8], at: usize, units: u64) -> usize
 pub struct Inches(pub u64);
 
 impl Display for Inches {
+    ghost output = { λ depth. Some (inches depth.0) };
+
     fn fmt<W: fmt::Write>(&self, f: &mut Formatter<W>) -> fmt::Result {
         let whole = self.0 / UNITS_PER_INCH;
         let parts = self.0 % UNITS_PER_INCH;

@@ -13,7 +13,7 @@ pub struct Page<'a> {
 
 impl<'a> Page<'a> {
     pub fn new(buffer: &'a mut [u8]) -> Page<'a>
-        ensures { result.end ≡ 0 }
+        ensures { (result.end ≡ 0) × (result.buffer ≡ buffer.entry) }
     {
         Page { buffer, end: 0 }
     }
