@@ -2,18 +2,20 @@
 -- from its end on. A word and the blank after it take two bytes, so that a text has at most half as many words as bytes, and one. Lines by theirs: the
 -- bytes before a line feed are the first of them, and those after it are the lines from there on; a line takes at least a byte.
 use mathlib.Core.Path.{◌≡◌, refl, sym, ap, ◌∙◌}
-use mathlib.Core.Bool.{Bool, not, cond}
+use mathlib.Core.Bool.{true, false, cond}
 use mathlib.Core.List.{List, [], ◌∷◌}
-use Prim.Native.Nat.{ℕ, suc, ◌^◌, ◌+◌, ◌*◌, ◌-◌, ◌≤◌, ◌<◌, zero-le}
+use Prim.Native.Nat.{ℕ, suc, ◌+◌, ◌*◌, ◌-◌, ◌≤◌, ◌<◌, zero-le}
 use native.Mathlib.Nat.{not-suc-le-zero}
+use native.Mathlib.Numerals.{add-one}
 use native.Mathlib.Omega.{arith}
-use lib.ListN.{length, take, drop, length-drop, drop_of_length-le}
-use lib.Seq.{drop-drop}
+use lib.ListN.{length, get_or, take, drop, length-drop, drop_of_length-le}
+use lib.Seq.{drop-cons, drop-drop}
 use Rattle.theory.proofs.Cases.{by_cases, below_or_not}
 use lib.Dec.{eqb}
 use Rattle.words.specs.Words.{is_blank, longer, pieces, kept, words, lines_of}
-use Rattle.words.specs.Spans.{first, blanks, run, line_run, NextWord, NextLine}
-use Rattle.std.specs.List.{prefix_len}
+use Rattle.words.specs.Spans.{stops_at, before, blanks, run, line_run, NextWord, NextLine}
+use Rattle.words.specs.declared.spans.Stop.{Stop}
+use Rattle.words.specs.declared.spans.Stop.TheVariants.{WordByte, Blank, LineFeed}
 
 -- the pieces after the first
 unfoldable pub after : List ℕ → List (List ℕ)
@@ -21,22 +23,22 @@ after [] = []
 after (b ∷ bs) = cond (is_blank b) (pieces bs) (after bs)
 
 pub first_piece : (l : List ℕ) → pieces l ≡ take (run l) l ∷ after l
-unfolding pieces longer after first
+unfolding pieces longer before stops_at after
 first_piece [] = refl
 first_piece (b ∷ bs) = by_cases (is_blank b) (λ e. rw e refl) (λ e. rw (e, first_piece bs) refl)
 
 after_run : (l : List ℕ) → kept (after l) ≡ words (drop (run l) l)
-unfolding pieces kept after words first
+unfolding pieces kept before stops_at after words
 after_run [] = refl
 after_run (b ∷ bs) = by_cases (is_blank b) (λ e. rw (e, e) refl) (λ e. rw e (after_run bs))
 
 words_skip : (l : List ℕ) → words (drop (blanks l) l) ≡ words l
-unfolding words pieces kept first
+unfolding words pieces kept before stops_at
 words_skip [] = refl
 words_skip (b ∷ bs) = by_cases (is_blank b) (λ e. rw e (words_skip bs)) (λ e. rw (e, e) refl)
 
 words_run : (l : List ℕ) → 1 ≤ run l → words l ≡ take (run l) l ∷ words (drop (run l) l)
-unfolding words kept first
+unfolding words kept before stops_at
 words_run [] h = absurd (not-suc-le-zero h)
 words_run (b ∷ bs) h =
     by_cases (is_blank b) (λ e. absurd (not-suc-le-zero (rw e at h)))
@@ -44,33 +46,30 @@ words_run (b ∷ bs) h =
 
 -- after the blanks a run begins, or the text is at its end
 words_none : (l : List ℕ) → run (drop (blanks l) l) ≡ 0 → words l ≡ []
-unfolding words pieces kept first
+unfolding words pieces kept before stops_at
 words_none [] h = refl
 words_none (b ∷ bs) h =
     by_cases (is_blank b) (λ e. rw e (words_none bs (rw e at h)))
     (λ e. let none : suc (run bs) ≡ 0 = rw (e, e) at h in absurd (omega arith))
 
-first_inside : (test : ℕ → Bool) (l : List ℕ) → first test l ≤ length l
-unfolding first
-first_inside test [] = zero-le
-first_inside test (b ∷ bs) = by_cases (test b) (λ e. rw e (omega (arith, first_inside test bs))) (λ e. rw e zero-le)
+before_inside : (stop : Stop) (l : List ℕ) → before stop l ≤ length l
+unfolding before
+before_inside stop [] = zero-le
+before_inside stop (b ∷ bs) = by_cases (stops_at stop b) (λ e. rw e zero-le) (λ e. rw e (omega (arith, before_inside stop bs)))
 
--- what an iterator counts
-first_counted : (test : ℕ → Bool) (l : List ℕ) → prefix_len test l ≡ first test l
-unfolding first
-first_counted test [] = refl
-first_counted test (b ∷ bs) = rw (first_counted test bs) (by_cases (test b) (λ e. rw e (omega arith)) (λ e. rw e refl))
+-- what a loop over the bytes learns from the byte at its place
+module _ (stop : Stop) (l : List ℕ) (i : ℕ) where
+  pub before_more : i < length l → stops_at stop (get_or l i 0) ≡ false → before stop (drop i l) ≡ suc (before stop (drop (i + 1) l))
+  unfolding before
+  before_more h e = rw (drop-cons l i 0 h, e, add-one i) refl
 
--- the place that is so many bytes on is one of the machine's numbers, since no text passes them
-module _ (test : ℕ → Bool) (text rest : List ℕ) (from n : ℕ) (counts : n ≡ prefix_len test rest) (is : rest ≡ drop from text) where
-  pub place_is : from + n ≡ from + first test (drop from text)
-  place_is = rw (counts, is, first_counted test (drop from text)) refl
+  pub before_stop : i < length l → stops_at stop (get_or l i 0) ≡ true → before stop (drop i l) ≡ 0
+  unfolding before
+  before_stop h e = rw (drop-cons l i 0 h, e) refl
 
-  pub place_fits : length text < 2 ^ 63 → from < 2 ^ 64 → from + n < 2 ^ 64
-  place_fits short near =
-      rw place_is
-      (below_or_not from (length text) (λ h. omega (arith, first_inside test (drop from text), length-drop from text))
-      (λ h. omega (arith, first_inside test (drop from text), drop_of_length-le text {i = from} h, length-drop from text)))
+  pub before_end : length l ≤ i → before stop (drop i l) ≡ 0
+  unfolding before
+  before_end h = rw (drop_of_length-le l {i = i} h) refl
 
 module _ (text : List ℕ) (from start end : ℕ) (skipped : start ≡ from + blanks (drop from text)) (ran : end ≡ start + run (drop start text)) where
   rest : drop start text ≡ drop (blanks (drop from text)) (drop from text)
@@ -98,7 +97,7 @@ module _ (text : List ℕ) (from start end : ℕ) (skipped : start ≡ from + bl
         ends = ran;
         found = is_found_lem;
         none = is_none;
-        inside = λ h. omega (arith, ran, first_inside (λ b. not (is_blank b)) (drop start text), length-drop start text);
+        inside = λ h. omega (arith, ran, before_inside Blank (drop start text), length-drop start text);
         forward = omega (arith, skipped);
         ordered = omega (arith, ran);
       }
@@ -112,7 +111,7 @@ none_after text from start end next h =
 pub end_inside : (text : List ℕ) (from start end : ℕ) → NextWord text from start end → from ≤ length text → end ≤ length text
 end_inside text from start end next h =
     below_or_not start end next.inside
-    (λ none. omega (arith, next.starts, next.ordered, first_inside is_blank (drop from text), length-drop from text))
+    (λ none. omega (arith, next.starts, next.ordered, before_inside WordByte (drop from text), length-drop from text))
 
 kept_more : (p : List ℕ) (ps : List (List ℕ)) → length (kept (p ∷ ps)) ≤ length (kept ps) + 1
 unfolding kept
@@ -132,7 +131,7 @@ half l h =
     below_or_not (run l) 1 (λ none. omega (arith, words_none_first l (omega arith))) (λ some. omega (arith, words_one l))
 
 words_after : (l : List ℕ) → 2 * length (kept (after l)) + run l ≤ length l
-unfolding after kept words first
+unfolding after kept before stops_at words
 words_after [] = zero-le
 words_after (b ∷ bs) =
     by_cases (is_blank b) (λ e. rw e (omega (arith, half bs (words_after bs)))) (λ e. rw e (omega (arith, words_after bs)))
@@ -142,7 +141,7 @@ words_few l = half l (words_after l)
 
 -- ---- lines
 lines_first : (l : List ℕ) → 0 < length l → lines_of l ≡ take (line_run l) l ∷ lines_of (drop (suc (line_run l)) l)
-unfolding lines_of longer first
+unfolding lines_of longer before stops_at
 lines_first [] h = absurd (not-suc-le-zero h)
 lines_first (b ∷ []) h = by_cases (eqb b 10) (λ e. rw e refl) (λ e. rw e refl)
 lines_first (b ∷ x ∷ bs) h =
@@ -168,6 +167,6 @@ next_line text from end ran =
       found = λ h.
           lines_first (drop from text) (omega (arith, length-drop from text))
           ∙ rw (width, after, drop-drop (suc (line_run (drop from text))) from text) refl;
-      inside = λ h. omega (arith, ran, first_inside (λ b. not (eqb b 10)) (drop from text), length-drop from text);
+      inside = λ h. omega (arith, ran, before_inside LineFeed (drop from text), length-drop from text);
       forward = omega (arith, ran);
     }

@@ -1,24 +1,32 @@
 -- A word's place in a text, and a line's.
 use Rattle.std.specs.Prelude.{Bool, cond, not, List, [], ◌∷◌, ◌≡◌, ℕ, suc, ◌+◌, ◌-◌, ◌≤◌, ◌<◌, eqb, length, take, drop}
 use Rattle.words.specs.Words.{is_blank, words, lines_of}
+use Rattle.words.specs.declared.spans.Stop.{Stop}
+use Rattle.words.specs.declared.spans.Stop.TheVariants.{WordByte, Blank, LineFeed}
 
 abbrev pub part : List ℕ → ℕ → ℕ → List ℕ
 part text start end = take (end - start) (drop start text)
 
--- how many bytes stand first that pass a test
-unfoldable pub first : (ℕ → Bool) → List ℕ → ℕ
-first test [] = 0
-first test (b ∷ bs) = cond (test b) (suc (first test bs)) 0
+-- the bytes at which a search stops
+unfoldable pub stops_at : Stop → ℕ → Bool
+stops_at WordByte b = not (is_blank b)
+stops_at Blank b = is_blank b
+stops_at LineFeed b = eqb b 10
 
--- how many blanks, how many other bytes, and how many bytes of a line
+-- how many bytes stand before the first of them
+unfoldable pub before : Stop → List ℕ → ℕ
+before stop [] = 0
+before stop (b ∷ bs) = cond (stops_at stop b) 0 (suc (before stop bs))
+
+-- how many blanks stand first, how many other bytes, and how many bytes of a line
 abbrev pub blanks : List ℕ → ℕ
-blanks l = first is_blank l
+blanks l = before WordByte l
 
 abbrev pub run : List ℕ → ℕ
-run l = first (λ b. not (is_blank b)) l
+run l = before Blank l
 
 abbrev pub line_run : List ℕ → ℕ
-line_run l = first (λ b. not (eqb b 10)) l
+line_run l = before LineFeed l
 
 -- the first word from a place on, after the blanks: there is one where it has a byte, and the next is looked for from its end on
 pub record NextWord (text : List ℕ) (from start end : ℕ) : Type 0 where

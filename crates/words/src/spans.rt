@@ -1,8 +1,7 @@
 // The words of a text, one after another, and its lines.
-ghost use Rattle.std.specs.Prelude.{not, ◌≡◌, eqb, drop};
-ghost use Rattle.std.specs.List.{prefix_len};
+ghost use Rattle.std.specs.Prelude.{◌≡◌, ◌+◌, drop};
 ghost use Rattle.words.specs.Words.{is_blank};
-ghost use Rattle.words.specs.Spans.{NextWord, NextLine};
+ghost use Rattle.words.specs.Spans.{stops_at, before, NextWord, NextLine};
 
 // A word's bytes: from `start` up to `end`. Where `end` is not past `start`, there is none.
 #[derive(Clone, Copy)]
@@ -11,48 +10,50 @@ pub struct Span {
     pub end: usize,
 }
 
+// The kind of byte that is searched for. An enum, for the one loop below.
+#[derive(Clone, Copy)]
+enum Stop {
+    WordByte,
+    Blank,
+    LineFeed,
+}
+
 fn is_blank(b: u8) -> bool
     ensures { result ≡ is_blank b }
 {
     (b == b' ') | (b == b'\n')
 }
 
-// What stands from a place on: nothing past the text's end.
-fn rest_of(text: &[u8], from: usize) -> &[u8]
-    ensures { result.now ≡ drop from text.now }
+fn stops_at(stop: Stop, b: u8) -> bool
+    ensures { result ≡ stops_at stop b }
 {
-    match text.get(from..) {
-        Some(rest) => rest,
-        None => &[],
+    match stop {
+        Stop::WordByte => !is_blank(b),
+        Stop::Blank => is_blank(b),
+        Stop::LineFeed => b == b'\n',
     }
 }
 
-// How many blanks stand first.
-fn blanks(text: &[u8]) -> usize
-    ensures { result ≡ prefix_len is_blank text.now }
+// The first place from `from` on that has such a byte, or the text's end. A loop: in a chain of iterators, tried, every step is refused, one of one byte too, so that no
+// edit could show that a step of two is.
+fn search(text: &[u8], from: usize, stop: Stop) -> usize
+    ensures { result ≡ from + before stop (drop from text.now) }
 {
-    text.iter().take_while(|b| is_blank(**b)).count()
-}
-
-// How many bytes stand before the first blank.
-fn run(text: &[u8]) -> usize
-    ensures { result ≡ prefix_len (λ b. not (is_blank b)) text.now }
-{
-    text.iter().take_while(|b| !is_blank(**b)).count()
-}
-
-// How many bytes stand before the first line feed.
-fn line_run(text: &[u8]) -> usize
-    ensures { result ≡ prefix_len (λ b. not (eqb b 10)) text.now }
-{
-    text.iter().take_while(|b| **b != b'\n').count()
+    let mut at = from;
+    while at < text.len() {
+        if stops_at(stop, text[at]) {
+            return at;
+        }
+        at += 1;
+    }
+    at
 }
 
 pub fn next_word(text: &[u8], from: usize) -> Span
     ensures { NextWord text.now from result.start result.end }
 {
-    let start = from + blanks(rest_of(text, from));
-    let end = start + run(rest_of(text, start));
+    let start = search(text, from, Stop::WordByte);
+    let end = search(text, start, Stop::Blank);
     Span { start, end }
 }
 
@@ -60,5 +61,5 @@ pub fn next_word(text: &[u8], from: usize) -> Span
 pub fn line_end(text: &[u8], from: usize) -> usize
     ensures { NextLine text.now from result }
 {
-    from + line_run(rest_of(text, from))
+    search(text, from, Stop::LineFeed)
 }
