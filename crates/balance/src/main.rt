@@ -6,12 +6,12 @@ use intake::{Failure, filled};
 use std::io::Input;
 use text::MOST_TEXT;
 
-fn run(rt: &(impl Input + Print)) -> Result<(), Failure> {
+fn run(rt: &(impl Input + Print)) -> Result<(), Failure<'static>> {
     let mut input = intake::input_room();
-    let count = intake::read_input(rt, "balance: standard input", &mut input)?;
+    let count = intake::read_input(rt, b"balance: standard input", &mut input)?;
     let mut output = filled::<u8, MOST_TEXT>(0);
     match text::balance_text(&input[..count], &mut output) {
-        Some(end) => intake::print(rt, "balance: standard output", &output[..end]),
+        Some(end) => intake::print(rt, b"balance: standard output", &output[..end]),
         None => Ok(()),
     }
 }

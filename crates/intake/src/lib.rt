@@ -26,8 +26,8 @@ pub struct Reason(pub Error);
 
 // A read or a write that failed, and of what.
 #[derive(Clone, Copy)]
-pub struct Failure {
-    what: &'static str,
+pub struct Failure<'a> {
+    what: &'a [u8],
     error: Error,
 }
 
@@ -73,9 +73,9 @@ impl Display for Reason {
     }
 }
 
-impl Display for Failure {
+impl Display for Failure<'_> {
     fn fmt<W: fmt::Write>(&self, f: &mut Formatter<W>) -> fmt::Result {
-        write!(f, "{}: {}", self.what, Reason(self.error))
+        write!(f, "{}: {}", Words(self.what), Reason(self.error))
     }
 }
 
@@ -159,11 +159,11 @@ fn read_from(file: &mut impl Read, buffer: &mut [u8]) -> io::Result<usize>
     Ok(done)
 }
 
-pub fn read_input(
+pub fn read_input<'a>(
     rt: &impl std::io::Input,
-    what: &'static str,
+    what: &'a [u8],
     buffer: &mut [u8],
-) -> Result<usize, Failure>
+) -> Result<usize, Failure<'a>>
     ensures { Within result buffer.new }
 {
     read_from(&mut rt.reader(), buffer).map_err(|error| Failure { what, error })
@@ -172,13 +172,13 @@ pub fn read_input(
 // The same of a file, which may also fail to be opened. The buffer has a place more than the longest, so that a longer file shows by its length.
 pub fn read_file(
     rt: &impl Files,
-    path: &str,
+    name: &[u8],
     longest: usize,
     buffer: &mut [u8],
 ) -> Result<usize, Unread>
     ensures { Within result buffer.new }
 {
-    let mut file = fs::open(rt, path)?;
+    let mut file = fs::open(rt, path_of(name)?)?;
     let count = read_from(&mut file, buffer)?;
     if longest < count {
         return Err(Unread::Longer(longest));
@@ -186,7 +186,7 @@ pub fn read_file(
     Ok(count)
 }
 
-pub fn print(rt: &impl Print, what: &'static str, text: &[u8]) -> Result<(), Failure> {
+pub fn print<'a>(rt: &impl Print, what: &'a [u8], text: &[u8]) -> Result<(), Failure<'a>> {
     rt.write_all(text).map_err(|error| Failure { what, error })
 }
 

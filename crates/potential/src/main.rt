@@ -6,12 +6,12 @@ use intake::{Failure, filled};
 use station::MOST_ANSWERS;
 use std::io::Input;
 
-fn run(rt: &(impl Input + Print)) -> Result<(), Failure> {
+fn run(rt: &(impl Input + Print)) -> Result<(), Failure<'static>> {
     let mut input = intake::input_room();
-    let count = intake::read_input(rt, "potential: standard input", &mut input)?;
+    let count = intake::read_input(rt, b"potential: standard input", &mut input)?;
     let mut output = filled::<u8, MOST_ANSWERS>(0);
     let end = station::potential_text(&input[..count], &mut output);
-    intake::print(rt, "potential: standard output", &output[..end])
+    intake::print(rt, b"potential: standard output", &output[..end])
 }
 
 fn main(rt: HostRuntime) {

@@ -3,7 +3,7 @@ ghost use Rattle.intake.specs.Input.{Within};
 
 use crate::wrong::Wrong;
 use desk::GridFile;
-use intake::{Name, Unread, argument_count, name_given, path_of};
+use intake::{Name, Unread, argument_count, name_given};
 use std::rt::{Env, Files};
 
 // The program's own name counts as an argument.
@@ -56,7 +56,7 @@ fn read_named(
 ) -> Result<usize, Unread>
     ensures { Within result buffer.new }
 {
-    intake::read_file(rt, path_of(name.as_bytes())?, longest, buffer)
+    intake::read_file(rt, name.as_bytes(), longest, buffer)
 }
 
 // The file's bytes, at the front of a buffer that has a place more than the longest.

@@ -33,7 +33,7 @@ fn make<'a>(rt: &(impl Files + Print), names: &'a Names) -> Result<(), Wrong<'a>
     let covers = read(rt, &names.covers, LONGEST_OTHER, &mut covers)?;
     let weather = read(rt, &names.weather, LONGEST_OTHER, &mut weather)?;
     match desk::setup_text(direction, cover, group, water, covers, weather, &mut output) {
-        Ok(count) => Ok(intake::print(rt, "setup: standard output", &output[..count])?),
+        Ok(count) => Ok(intake::print(rt, b"setup: standard output", &output[..count])?),
         Err(fault) => Err(Wrong::Files(names, fault)),
     }
 }

@@ -12,11 +12,11 @@ pub(crate) enum Wrong<'a> {
     Unread(&'a Name, Unread),
     // The files do not make a text.
     Files(&'a Names, Fault),
-    Unwritten(Failure),
+    Unwritten(Failure<'a>),
 }
 
-impl From<Failure> for Wrong<'_> {
-    fn from(failure: Failure) -> Self {
+impl<'a> From<Failure<'a>> for Wrong<'a> {
+    fn from(failure: Failure<'a>) -> Self {
         Wrong::Unwritten(failure)
     }
 }

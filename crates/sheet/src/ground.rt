@@ -65,7 +65,7 @@ fn read_at(
 ) -> Result<usize, Unread>
     ensures { Within result room.new }
 {
-    intake::read_file(rt, place.path()?.as_str(), longest, room)
+    intake::read_file(rt, place.path()?.as_str().as_bytes(), longest, room)
 }
 
 // Reads a file to the front of the room, which has a place more than the longest, and hands on what is behind it.

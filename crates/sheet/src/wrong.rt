@@ -10,7 +10,7 @@ pub(crate) enum Wrong<'a> {
     Usage,
     NoFolder,
     At(Place<'a>, What<'a>),
-    Unprinted(Failure),
+    Unprinted(Failure<'a>),
 }
 
 #[derive(Clone, Copy)]
@@ -164,8 +164,8 @@ impl Display for Wrong<'_> {
     }
 }
 
-impl From<Failure> for Wrong<'_> {
-    fn from(failure: Failure) -> Self {
+impl<'a> From<Failure<'a>> for Wrong<'a> {
+    fn from(failure: Failure<'a>) -> Self {
         Wrong::Unprinted(failure)
     }
 }

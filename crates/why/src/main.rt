@@ -16,7 +16,7 @@ use wrong::Wrong;
 fn answer(rt: &(impl Env + Input + Print + Eprint)) -> Result<(), Wrong> {
     let question = Question::asked(rt)?;
     let mut input = intake::input_room();
-    let count = intake::read_input(rt, "why: standard input", &mut input)?;
+    let count = intake::read_input(rt, b"why: standard input", &mut input)?;
     run(rt, &input[..count], question)
 }
 

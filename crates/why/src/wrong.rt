@@ -11,11 +11,11 @@ pub(crate) enum Wrong {
     Serial,
     // No day of the text has this serial.
     NoDay(u32),
-    Failed(Failure),
+    Failed(Failure<'static>),
 }
 
-impl From<Failure> for Wrong {
-    fn from(failure: Failure) -> Wrong {
+impl From<Failure<'static>> for Wrong {
+    fn from(failure: Failure<'static>) -> Wrong {
         Wrong::Failed(failure)
     }
 }
