@@ -33,7 +33,7 @@ const SHEET_ROOM: usize = 3276800;
 const SETUP_ROOM: usize = 65536;
 
 fn worked<'a>(
-    rt: &(impl Files + Print),
+    rt: &(impl Files + Print + Eprint),
     folder: Folder<'a>,
     site: &Site<'_>,
     soil: &mut [u32],
@@ -76,7 +76,7 @@ fn cells_in(numbers: &[u32], layout: Layout) -> usize
 
 // Numbers that are ready for the run.
 fn started<'a>(
-    rt: &(impl Files + Print),
+    rt: &(impl Files + Print + Eprint),
     folder: Folder<'a>,
     header: Header,
     numbers: &[u32],
@@ -114,7 +114,7 @@ fn started<'a>(
 
 // The setup's text, with no days behind it.
 fn taken_up<'a>(
-    rt: &(impl Files + Print),
+    rt: &(impl Files + Print + Eprint),
     folder: Folder<'a>,
     ground: Ground<'_>,
     room: &mut [u8],
@@ -128,7 +128,10 @@ fn taken_up<'a>(
 }
 
 // One large room serves for all that is read, and then for all that is written: what was read from it stands in numbers by then.
-pub(crate) fn sheet_of<'a>(rt: &(impl Files + Print), folder: Folder<'a>) -> Result<(), Wrong<'a>> {
+pub(crate) fn sheet_of<'a>(
+    rt: &(impl Files + Print + Eprint),
+    folder: Folder<'a>,
+) -> Result<(), Wrong<'a>> {
     let mut room = filled::<u8, SHEET_ROOM>(0);
     let mut text = filled::<u8, SETUP_ROOM>(0);
     let ground = read_ground(rt, folder, &mut room, &mut text)?;

@@ -2,7 +2,7 @@
 use crate::folder::{Folder, Place};
 use crate::texts::Texts;
 use crate::wrong::{What, Wrong};
-use intake::print;
+use intake::{print, say};
 use std::fs::OpenFile;
 use std::io::{Error, ErrorKind, Write};
 use std::rt::Files;
@@ -137,16 +137,17 @@ fn put_all<'a>(rt: &impl Files, folder: Folder<'a>, texts: Texts<'_>) -> Result<
     Ok(())
 }
 
-// All ten files, or none.
+// All ten files, or none. Why there is none is said before what stands beside its place is removed again.
 pub(crate) fn write_files<'a>(
-    rt: &(impl Files + Print),
+    rt: &(impl Files + Print + Eprint),
     folder: Folder<'a>,
     texts: Texts<'_>,
 ) -> Result<(), Wrong<'a>> {
     let stands = make_folder(rt, folder)?;
     if let Err(wrong) = put_all(rt, folder, texts) {
+        say(rt, Err(wrong));
         undo(rt, folder, stands);
-        return Err(wrong);
+        return Ok(());
     }
-    Ok(print(rt, "sheet: standard output", texts.of(SheetFile::Person))?)
+    Ok(print(rt, b"sheet: standard output", texts.of(SheetFile::Person))?)
 }
