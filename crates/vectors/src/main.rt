@@ -32,7 +32,9 @@ struct Lengths {
 #[derive(Clone, Copy)]
 struct Damaged;
 
-fn digit(byte: u8) -> usize {
+fn digit(byte: u8) -> usize
+    ensures { result ≤ 9 }
+{
     usize::from(byte.saturating_sub(b'0').min(9))
 }
 
